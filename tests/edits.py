@@ -23,8 +23,9 @@ last the line `rt ci has ended`: the libraries that it names as proved are there
 least share of the processors, and only while memory is left; one that is killed for memory is tried again at the end.
 
 After the lines of a crate comes one with the seconds that its checks took. Without --more it then looks at the edits of all crates in both
-folders, whether their texts and, where the library is there, their functions are still there: one more is passed for each crate whose edits
-can be tried. The last line is 'N passed, M failed', and the exit status 1 where M isn't 0.
+folders, whether their texts and, where the library is there, their functions are still there, and whether the head of each source file names
+the folders in which its edits stand: one more is passed for each crate where all is so. The last line is 'N passed, M failed', and the exit
+status 1 where M isn't 0.
 """
 
 import argparse
@@ -474,18 +475,27 @@ def try_crate(kit, crate, folder, when):
 
 
 def misfits(crate):
-    """What is wrong with edits of the crate, in either folder, that can be told without a check: their text or their function isn't there."""
+    """What is wrong with edits of the crate, in either folder, that can be told without a check: their text or their function isn't there, or
+    the head of a file doesn't name the folders in which its edits stand."""
     there = crate.functions() if crate.library.exists() else None
+    folders = {}
     for file in sorted(crate.folder.glob("must-fail*/*.edit")):
         try:
             edit = read_edit(file)
             for path, old, _ in edit.changes:
+                folders.setdefault(path, {})[f"`{file.parent.name}/`"] = None
                 if (count := (crate.folder / path).read_text().count(old)) != 1:
                     raise BadEdit(f"an old text is in {path} {count} times, and not once")
             if gone := [name for name in edit.functions if there is not None and name not in there]:
                 raise BadEdit(f"there is no function {', '.join(gone)}")
         except BadEdit as why:
             yield f"{crate.name}/{file.stem}: BAD EDIT: {why}"
+    for source in sorted((crate.folder / "src").rglob("*.rt")):
+        path = str(source.relative_to(crate.folder))
+        head = " ".join(line[4:] for line in source.read_text().splitlines() if line.startswith("//! "))
+        said, right = re.search(r"Wrong bodies: ([^.]*)\.", head), " and ".join(folders.get(path, ()))
+        if right != (said[1] if said else ""):
+            yield f"{crate.name}/{path}: its head should say: Wrong bodies: {right or 'nothing'}"
 
 
 def main():

@@ -1,6 +1,6 @@
 //! Imports: a schedule's pairings, asked one after the other under the parts of one number, so that one that was stopped
 //! is handed in again.
-//! Transcript: `tests/transcripts/import.txt`. Wrong bodies: `must-fail/`.
+//! Transcript: `tests/transcripts/import.txt`. Wrong bodies: `must-fail/` and `must-fail-more/`.
 ghost use Rattle.std.specs.Prelude.{◌≡◌, ◌+◌, ◌<◌, ◌≤◌, IfErr, IfOk, IfSome, IsSome, IsSomeAnd, MatchOption, None, length};
 ghost use Rattle.roster.specs.Laws.{Resumes};
 ghost use Rattle.book.specs.Answered.{IsAnswered};

@@ -1,6 +1,6 @@
 //! Reading a schedule: the text, its records, their segments, and the pairings. What is read is `IsSchedule`, and what
 //! is at fault `IsAtFault` (`specs/Schedule.antt`).
-//! Schedules with a fault each: `tests/texts.py`. Wrong bodies: `must-fail/`.
+//! Schedules with a fault each: `tests/texts.py`. Wrong bodies: `must-fail/` and `must-fail-more/`.
 ghost use Rattle.std.specs.Prelude.{◌≡◌, ◌⊎◌, ◌∷◌, ℕ, List, true, Some, map, IfOk, IfErr};
 ghost use Rattle.csv.specs.Reading.{AreRecords, default_config, strip_bom};
 ghost use Rattle.csv.specs.Records.{fields_of};

@@ -1,5 +1,5 @@
 //! Refusals in JSON. The definitions are in `specs/RefusalText.antt`.
-//! Refusals of `do`: `tests/answers.py` and `tests/texts.py`. Wrong bodies: `must-fail/`.
+//! Refusals of `do`: `tests/answers.py` and `tests/texts.py`. Wrong bodies: `must-fail/` and `must-fail-more/`.
 ghost use Rattle.std.specs.Prelude.{◌≡◌, string_bytes, IfOk};
 ghost use Rattle.serde_json.specs.View.{view};
 ghost use Rattle.codec.specs.RefusalText as spec;

@@ -1,5 +1,5 @@
 //! Commands that clients write, with their numbers. The definition is `read_request` (`specs/Requests.antt`).
-//! Bodies that are refused: `tests/texts.py`. Wrong bodies: `must-fail/`.
+//! Bodies that are refused: `tests/texts.py`. Wrong bodies: `must-fail-more/`.
 ghost use Rattle.std.specs.Prelude.{◌≡◌, ◌⊎◌, ◌≤◌, Ok, Err, IfOk, IfErr};
 ghost use Rattle.serde_json.specs.View.{view};
 ghost use Rattle.codec.specs.Requests.{read_body, read_request};

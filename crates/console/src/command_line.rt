@@ -1,5 +1,5 @@
 //! The words after the program's name, read by `clap`. The definition is `command_line` (`specs/CommandLine.antt`).
-//! Command lines and help: `tests/program.sh`. Wrong bodies: `must-fail/`.
+//! Command lines and help: `tests/program.sh`. Wrong bodies: `must-fail/` and `must-fail-more/`.
 ghost use Rattle.std.specs.Prelude.{◌≡◌, ◌∷◌, ◌⊎◌, ℕ, Bool, IfOk, IsErrAnd, IsSomeAnd, List, MatchResult, None, Option};
 ghost use Rattle.std.specs.Prelude.{Some, [], codes, false, is_some, map, option_map, string_bytes, true};
 ghost use Rattle.std.specs.List.{list_all};

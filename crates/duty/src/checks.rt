@@ -1,5 +1,5 @@
 //! What the constructors test, in the order of the faults: shapes, counts, times and chains.
-//! Worked rows: `tests/answers.py`. Wrong bodies: `must-fail/`.
+//! Worked rows: `tests/answers.py`. Wrong bodies: `must-fail/` and `must-fail-more/`.
 ghost use Rattle.std.specs.Prelude.{◌≡◌, ◌≤◌, ◌++◌, length, map, take, IfOk};
 ghost use Rattle.std.specs.List.{list_all};
 ghost use Rattle.duty.specs.Pairings as spec;

@@ -1,5 +1,5 @@
 //! The refusals 16 to 19, which need no book: broken orders of times and chains, bad texts, numbers out of range.
-//! Worked rows: `tests/answers.py`; bad texts: `tests/texts.py`.
+//! Worked rows: `tests/answers.py`; bad texts: `tests/texts.py`. Wrong bodies: `must-fail-more/`.
 ghost use Rattle.std.specs.Prelude.{◌≡◌};
 
 use std::alloc::{AllocError, AllocFailed};

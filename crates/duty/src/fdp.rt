@@ -1,5 +1,4 @@
-//! Flight duty periods (14 CFR 117.3), planned or flown. A `Pairing` has those whose times are in order.
-//! Wrong bodies: `must-fail/`.
+//! Flight duty periods (14 CFR 117.3), planned or flown. A `Pairing` has those whose times are in order. Wrong bodies: `must-fail-more/`.
 ghost use Rattle.std.specs.Prelude.{◌≡◌, ◌≤◌, ◌⊎◌, length, map, Ok, Err, IfOk, IfErr};
 ghost use Rattle.std.specs.List.{zip};
 ghost use Rattle.duty.specs.Pairings.{is_in_order, block_times, fdp_with_actual};

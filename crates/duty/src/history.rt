@@ -1,6 +1,6 @@
 //! The duties of a crew member, with their minutes in order of time.
 //! A history's minutes and free runs: `src/histories.rt` of `call_tests`; new duties in one, beside a slow count: `tests/judgement.py`.
-//! Wrong bodies: `must-fail/`.
+//! Wrong bodies: `must-fail-more/`.
 ghost use Rattle.std.specs.Prelude.{◌≡◌, ◌<◌, ◌≤◌, ◌-◌, ◌++◌, ◌∷◌, [], IfOk, OnOk, OnErr, pos, negsuc, ◌-ℤ◌, ◌≤ℤ◌, unsigned_abs, IsFalse, IsTrue, ◌⊎◌, ◌↔◌};
 ghost use Rattle.std.specs.List.{flat_map};
 ghost use Rattle.duty.specs.Minutes.{count, minutes_in, spans_of, Meets, HasFreeRun, Overlap};

@@ -1,5 +1,5 @@
 //! Minutes as a sorted list of disjoint intervals with running sums, and what is asked of it.
-//! Against a slow count of minutes: `tests/judgement.py`. Wrong bodies: `must-fail/`.
+//! Against a slow count of minutes: `tests/judgement.py`. Wrong bodies: `must-fail/` and `must-fail-more/`.
 ghost use Rattle.std.specs.Prelude.{◌≡◌, ℕ, ◌<◌, ◌≤◌, ◌+◌, ◌-◌, ◌^◌, [], length, slice_index_or, slice_range, OnOk, IfOk, ◌||◌, ℤ, nat_lt, IsTrue, IsFalse, IfSome, IfNone, pos, negsuc, ◌-ℤ◌, ◌≤ℤ◌, unsigned_abs, ◌↔◌, ◌⊎◌, ◌&&◌};
 ghost use Rattle.std.specs.List.{list_any};
 ghost use Rattle.duty.specs.Intervals.{AreApart, IsIndex, lengths, spans_in};

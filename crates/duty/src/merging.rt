@@ -1,5 +1,5 @@
 //! Spans put into sorted lists of disjoint intervals, and the running sums made anew.
-//! Against a slow count of minutes: `tests/judgement.py`. Wrong bodies: `must-fail/`.
+//! Against a slow count of minutes: `tests/judgement.py`. Wrong bodies: `must-fail/` and `must-fail-more/`.
 ghost use Rattle.std.specs.Prelude.{◌≡◌, ℕ, ◌<◌, ◌≤◌, ◌+◌, ◌-◌, ◌++◌, ◌∷◌, [], List, Some, length, map, slice_get, slice_index_or, slice_range, take, ◌||◌, ℤ, vec_len, vec_capacity, nat_lt, IsTrue, IsFalse};
 ghost use Rattle.std.specs.List.{insert, insert_slice};
 ghost use Rattle.duty.specs.Intervals.{AreApart, AreSummed, IsIndex, lengths, spans_in, unsummed, joined as join};

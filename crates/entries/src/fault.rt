@@ -1,6 +1,6 @@
 //! The refusals 40, 41 and 42 of a file that is no book, is damaged, or is of another version. What each says of the
 //! database is `Justifies` (`specs/Loading.antt` of `loading`), and why a read answers 90 is `HasReadCause`.
-//! Files with one damage and with two: `tests/tables.py`.
+//! Files with one damage and with two: `tests/tables.py`. Wrong bodies: `must-fail-more/`.
 use state_rows::StoreFault;
 use std::alloc::{AllocError, AllocFailed};
 use std::fmt;

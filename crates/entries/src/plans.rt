@@ -1,5 +1,5 @@
 //! A pairing, as the rows of its periods and segments give it.
-//! Periods and segments that are damaged: `tests/tables.py`. Wrong bodies: `must-fail/`.
+//! Periods and segments that are damaged: `tests/tables.py`. Wrong bodies: `must-fail/` and `must-fail-more/`.
 
 ghost use Rattle.std.specs.Prelude.{◌≡◌, ◌≤◌, ℕ, map, true, false, slice_get, IfOk, MatchResult, Option, Some, None};
 ghost use Rattle.duty.specs.declared.segment.BlockTimes as declared_times;

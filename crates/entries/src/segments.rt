@@ -1,5 +1,5 @@
 //! The records of the table `segment` by their keys.
-//! Files with such a damage: `tests/tables.py`. Wrong bodies: `must-fail/`.
+//! Files with such a damage: `tests/tables.py`. Wrong bodies: `must-fail/` and `must-fail-more/`.
 
 ghost use Rattle.std.specs.Prelude.{◌≡◌, ◌↔◌, length, map, IfOk, IsTrue, MatchResult};
 ghost use Rattle.std.specs.FinMap as fin;

@@ -6,7 +6,7 @@ use Rattle.std.proofs.KnownBytes.{Appends-nil, Appends-trans}
 use Rattle.http_message.proofs.HeadLemmas.{has_byte}
 use Rattle.http_message.specs.Heading.{Heading}
 use Rattle.http_message.specs.Plan as planning
-use Rattle.http_message.specs.Plan.{Planned, Step, Subject, plan_for_head, refuse, receive}
+use Rattle.http_message.specs.Plan.{Planned, Step, plan_for_head, refuse, receive}
 use Rattle.http_message.specs.Reading as reading
 use Rattle.http_message.specs.declared.plan.ExpectedBody.{ExpectedBody}
 use Rattle.http_message.specs.declared.reading.ReadFault.TheVariants.{Memory}

@@ -1,5 +1,5 @@
 //! A body as a reader gives it.
-//! What clients send: `tests/exchanges.py`. Wrong bodies: `must-fail/`.
+//! What clients send: `tests/exchanges.py`. Wrong bodies: `must-fail/` and `must-fail-more/`.
 ghost use Rattle.std.specs.Prelude.{◌≡◌, ◌≤◌, [], IfOk};
 ghost use Rattle.std.specs.Vec.{vec_capacity};
 ghost use Rattle.http_exchange.specs.Body as spec;

@@ -1,6 +1,6 @@
 //! One exchange: a head is read, then a body, then the handler is asked, and then its answer is written. The definitions
 //! are in `specs/Exchange.antt`.
-//! What clients send and are answered: `tests/exchanges.py`. Wrong bodies: `must-fail/`.
+//! What clients send and are answered: `tests/exchanges.py`. Wrong bodies: `must-fail/` and `must-fail-more/`.
 ghost use Rattle.std.specs.Prelude.{IfErr, IfOk};
 ghost use Rattle.http_exchange.specs.Exchange as spec;
 

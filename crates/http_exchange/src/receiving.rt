@@ -1,5 +1,5 @@
 //! What a request whose head was read asks for: a body that is taken in, a report, or nothing.
-//! What clients send and are answered: `tests/exchanges.py`. Wrong bodies: `must-fail/`.
+//! What clients send and are answered: `tests/exchanges.py`. Wrong bodies: `must-fail-more/`.
 ghost use Rattle.std.specs.Prelude.{◌≡◌, MatchResult};
 ghost use Rattle.std.specs.Io.KnownBytes.{Appends};
 ghost use Rattle.http_message.specs.Plan.{plan_for_head};

@@ -1,5 +1,5 @@
 //! Final responses, as they are written.
-//! What clients are answered: `tests/exchanges.py`. Wrong bodies: `must-fail/`.
+//! What clients are answered: `tests/exchanges.py`. Wrong bodies: `must-fail-more/`.
 ghost use Rattle.std.specs.Prelude.{◌≡◌, [], IfErr, IfOk, MatchResult};
 ghost use Rattle.std.specs.Io.KnownBytes.{Appends};
 ghost use Rattle.http_exchange.specs.Handler.{answer_or_fault};

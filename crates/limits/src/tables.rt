@@ -1,5 +1,5 @@
 //! Tables A and B of Part 117, in minutes.
-//! At the first and the last minute of each row: `tests/judgement.py`. Wrong bodies: `must-fail/`.
+//! At the first and the last minute of each row: `tests/judgement.py`. Wrong bodies: `must-fail/` and `must-fail-more/`.
 ghost use Rattle.std.specs.Prelude.{◌≡◌, ◌<◌};
 ghost use Rattle.limits.specs.Tables.{table_a as minutes_a, table_b as minutes_b, row_of};
 

@@ -1,5 +1,5 @@
 //! The limits on windows of hours: 117.23(b)(1), and 117.23(c)(1) and (2).
-//! Both sides of each: `tests/answers.py`; against a slow count: `tests/judgement.py`. Wrong bodies: `must-fail/`.
+//! Both sides of each: `tests/answers.py`; against a slow count: `tests/judgement.py`. Wrong bodies: `must-fail/` and `must-fail-more/`.
 use super::limit::Limit;
 use super::section::Section;
 use super::window_rule::is_over;

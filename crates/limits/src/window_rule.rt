@@ -1,5 +1,5 @@
 //! How a limit on windows is tried: of all windows of minutes a few suffice, which `specs/Laws/SumRule.antt` proves.
-//! Against a count over every window: `tests/judgement.py`. Wrong bodies: `must-fail/`.
+//! Against a count over every window: `tests/judgement.py`. Wrong bodies: `must-fail/` and `must-fail-more/`.
 ghost use Rattle.std.specs.Prelude.{◌≡◌, ◌<◌, ◌^◌, ◌↔◌, IsTrue};
 ghost use Rattle.std.specs.List.{list_any, flat_map};
 ghost use Rattle.duty.specs.Minutes.{spans_of, minutes_in};

@@ -1,14 +1,11 @@
 -- Each member who is there has a text, with each pairing that is there, or without one.
-use Rattle.std.proofs.Common.{◌≡◌, ◌++◌, ℕ, List, length, refl, Option, Some}
-use Rattle.std.specs.FinMap as fin
+use Rattle.std.proofs.Common.{◌++◌, ℕ, List, length, refl}
 use Rattle.std.specs.List.{flat_map}
-use Rattle.command.specs.declared.member.Member.{Member}
 use Rattle.limits.specs.Judgement.{all_sections}
 use Rattle.nearness.proofs.EachNearness.{each_nearness}
 use Rattle.roster.specs.Places.{duties}
-use Rattle.roster.specs.State.{State}
 use Rattle.limits_report.specs.Laws.{EachHasText}
-use Rattle.limits_report.specs.LimitsText.{Judged, IsJudgedText, header, judged_duties, names, section_line}
+use Rattle.limits_report.specs.LimitsText.{Judged, IsJudgedText, header, names, section_line}
 
 each_judged : (j : Judged) (first : List ℕ) → (text : List ℕ) × IsJudgedText j first text
 each_judged j first =

@@ -1,5 +1,5 @@
 -- Items that are taken out of a list one after the other.
-use Rattle.std.proofs.Common.{◌≡◌, ◌++◌, ◌∷◌, ◌∙◌, ◌+◌, [], ℕ, List, length, length-append, append-nil, append_assoc, ap, sym, subst, refl, Option, Some, slice_get}
+use Rattle.std.proofs.Common.{◌≡◌, ◌++◌, ◌∷◌, ◌∙◌, ◌+◌, [], List, length, length-append, append-nil, append_assoc, ap, sym, refl, Some, slice_get}
 
 there : {A : Type 0} (done rest : List A) (it : A) → slice_get (done ++ it ∷ rest) (length done) ≡ Some it
 there [] rest it = refl

@@ -3,7 +3,6 @@ use Rattle.std.specs.Prelude.{◌≡◌, ◌⊎◌, ⊤, pos, false, IsUtf8, Non
 use Rattle.sqlite_disk.specs.Disk.{MoreFaults}
 use Rattle.sqlite.specs.Effect.{Database}
 use Rattle.sqlite.specs.State as conn
-use Rattle.roster.specs.Sound.{Members}
 use Rattle.roster.specs.State.{State}
 use Rattle.roster.specs.declared.state.DutyId.TheVariants.{Period, Outside}
 use Rattle.tables.specs.Calls.{HasStepLimit, IsInOrder}

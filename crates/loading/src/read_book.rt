@@ -1,5 +1,5 @@
 //! The book's own row, as it is loaded. What is right is `IsBookRight` (`specs/Right.antt` of `entries`).
-//! Files with such a damage: `tests/tables.py`. Wrong bodies: `must-fail/`.
+//! Files with such a damage: `tests/tables.py`. Wrong bodies: `must-fail-more/`.
 
 ghost use Rattle.std.specs.Prelude.{◌≡◌, ◌↔◌, map, pos, true, IfOk, IsTrue, MatchOption, MatchResult};
 ghost use Rattle.std.specs.Option.{option_copied};

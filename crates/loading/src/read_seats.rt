@@ -1,5 +1,5 @@
 //! The table `seat`, as it is loaded. What is right is `IsSeatRight` (`specs/Right.antt` of `entries`).
-//! Files with such a damage: `tests/tables.py`. Wrong bodies: `must-fail/`.
+//! Files with such a damage: `tests/tables.py`. Wrong bodies: `must-fail/` and `must-fail-more/`.
 
 ghost use Rattle.std.specs.Prelude.{◌≡◌, ◌||◌, not, length, map, true, IfOk, IsTrue, ◌↔◌, MatchResult, Some};
 ghost use Rattle.std.specs.FinMap as fin;

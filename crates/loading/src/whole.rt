@@ -1,6 +1,6 @@
 //! A book, read table by table in the order of the formats: the first table that isn't right is the one that a refusal
 //! names.
-//! Files with one damage and with two: `tests/tables.py`. Wrong bodies: `must-fail/`.
+//! Files with one damage and with two: `tests/tables.py`. Wrong bodies: `must-fail/` and `must-fail-more/`.
 
 ghost use Rattle.std.specs.Prelude.{◌≡◌, IfOk};
 ghost use Rattle.std.specs.FinMap as fin;

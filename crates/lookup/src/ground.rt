@@ -1,5 +1,5 @@
 //! Ground duties, read by id and by member.
-//! Through the program: `tests/answers.py`. Wrong bodies: `must-fail/`.
+//! Through the program: `tests/answers.py`. Wrong bodies: `must-fail-more/`.
 
 ghost use Rattle.std.specs.Prelude.{◌≡◌, IfErr, IfOk, [], ◌∷◌, map};
 ghost use Rattle.std.specs.FinMap as fin;

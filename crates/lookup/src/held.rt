@@ -1,5 +1,5 @@
 //! The pairings that a member holds.
-//! Through the program: `tests/answers.py`. Wrong bodies: `must-fail/`.
+//! Through the program: `tests/answers.py`. Wrong bodies: `must-fail-more/`.
 
 ghost use Rattle.std.specs.Prelude.{◌≡◌, IfOk, map};
 ghost use Rattle.sqlite.specs.Held.{state};

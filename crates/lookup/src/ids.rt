@@ -1,5 +1,5 @@
 //! The ids of all members, and of all pairings.
-//! Through the program: `tests/reports.py`. Wrong bodies: `must-fail/`.
+//! Through the program: `tests/reports.py`. Wrong bodies: `must-fail-more/`.
 
 ghost use Rattle.std.specs.Prelude.{◌≡◌, [], IfOk, IsTrue, map};
 ghost use Rattle.sqlite.specs.Held.{state};

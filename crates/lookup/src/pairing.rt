@@ -1,5 +1,5 @@
 //! A pairing with its actuals and holders, read by id.
-//! Through the program: `tests/answers.py`. Wrong bodies: `must-fail/`.
+//! Through the program: `tests/answers.py`. Wrong bodies: `must-fail-more/`.
 
 ghost use Rattle.std.specs.Prelude.{◌≡◌, IfErr, IfOk, IsSome, slice_get};
 ghost use Rattle.std.specs.FinMap as fin;

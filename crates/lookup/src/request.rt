@@ -1,5 +1,5 @@
 //! What a key holds, read by key.
-//! Through the program: `tests/answers.py`. Wrong bodies: `must-fail/`.
+//! Through the program: `tests/answers.py`. Wrong bodies: `must-fail-more/`.
 
 ghost use Rattle.std.specs.Prelude.{◌≡◌, IfErr, IfOk, [], ◌∷◌, map, pos};
 ghost use Rattle.std.specs.FinMap as fin;

@@ -1,5 +1,5 @@
 //! The part of a state, gathered from a source. Its definition is `Part` (`specs/Part.antt`).
-//! Through the program: `tests/answers.py`. Wrong bodies: `must-fail/`.
+//! Through the program: `tests/answers.py`. Wrong bodies: `must-fail-more/`.
 
 ghost use Rattle.std.specs.Prelude.{◌≡◌, ◌++◌, IfErr, OnOk};
 ghost use Rattle.command.specs.Keys.{KeyParts};

@@ -1,4 +1,4 @@
-//! Entries of a source under some ids.
+//! Entries of a source under some ids. Wrong bodies: `must-fail-more/`.
 
 ghost use Rattle.std.specs.Prelude.{◌≡◌, IfErr, OnOk};
 ghost use Rattle.std.specs.FinMap as fin;

@@ -1,6 +1,6 @@
 //! What is shown of a member, of a member's limits, of a pairing, or of all members, pairings or exceedances, gathered
 //! from a source.
-//! Through the program: `tests/reports.py`. Wrong bodies: `must-fail/`.
+//! Through the program: `tests/reports.py`. Wrong bodies: `must-fail-more/`.
 
 ghost use Rattle.std.specs.Prelude.{◌≡◌, IfErr, OnOk};
 ghost use Rattle.std.specs.FinMap as fin;

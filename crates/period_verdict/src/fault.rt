@@ -1,5 +1,5 @@
 //! The refusals of `rosterbook duty`: T1 to T4, 16, 19 and 91.
-//! Each of them: `tests/texts.py` and `tests/transcripts/duty.txt`; 91: `tests/allocations.py`.
+//! Each of them: `tests/texts.py` and `tests/transcripts/duty.txt`; 91: `tests/allocations.py`. Wrong bodies: `must-fail-more/`.
 ghost use Rattle.std.specs.Prelude.{◌≡◌};
 
 use std::alloc::{AllocError, AllocFailed};

@@ -1,5 +1,5 @@
 //! The line of `rosterbook duty`. Its definition is `line_of` (`specs/Verdict.antt`).
-//! Tables A and B by it: `tests/judgement.py`; its texts: `tests/texts.py`. Wrong bodies: `must-fail/`.
+//! Tables A and B by it: `tests/judgement.py`; its texts: `tests/texts.py`. Wrong bodies: `must-fail/` and `must-fail-more/`.
 ghost use Rattle.std.specs.Prelude.{◌≡◌, ◌≤◌, ◌⊎◌, nat_lt, length, map, string_bytes, Ok, Err, IfOk, IfErr};
 ghost use Rattle.period_verdict.specs.FlightDuty.{is_block_time_count as is_count};
 ghost use Rattle.period_verdict.specs.Verdict as spec;

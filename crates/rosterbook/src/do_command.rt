@@ -1,6 +1,6 @@
 //! `rosterbook do`: a request on standard input, asked of a book, or one a line. The definitions are in `specs/Asking.antt` and
 //! `specs/Doing.antt`.
-//! Transcripts: `tests/transcripts/requests.txt` and `all_commands.txt`. Wrong bodies: `must-fail/`.
+//! Transcripts: `tests/transcripts/requests.txt` and `all_commands.txt`. Wrong bodies: `must-fail-more/`.
 ghost use Rattle.std.specs.Prelude.{◌≡◌, true, IfErr, IfOk, IsErr, None};
 ghost use Rattle.sqlite_wal.specs.Files.{image_at};
 ghost use Rattle.sqlite.specs.Files.{over_files};

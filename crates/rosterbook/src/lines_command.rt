@@ -1,6 +1,5 @@
 //! `rosterbook do --lines`: requests on standard input, one a line, asked of a book one after the other. The definitions are in
-//! `specs/InLines.antt`.
-//! Wrong bodies: `must-fail/` and `must-fail-more/`.
+//! `specs/InLines.antt`. Wrong bodies: `must-fail-more/`.
 ghost use Rattle.std.specs.Prelude.{◌≡◌, ◌∷◌, [], IfErr, IfOk};
 ghost use Rattle.book.specs.Calls.{IsAfterCalls};
 ghost use Rattle.rosterbook.specs.InLines as spec;

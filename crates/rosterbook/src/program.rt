@@ -1,6 +1,6 @@
 //! How the program answers what a command line asks for, and how it ends. Its definition is `PerformsAction`
 //! (`specs/Program.antt`).
-//! Each subcommand, and outputs that fail: `tests/program.sh`. Wrong bodies: `must-fail/`.
+//! Each subcommand, and outputs that fail: `tests/program.sh`. Wrong bodies: `must-fail-more/`.
 ghost use Rattle.std.specs.Prelude.{◌≡◌, ◌≢◌, true, IfErr, IfOk, IfSome, IsErr, None};
 ghost use Rattle.std.specs.Io.KnownBytes.{Appends};
 ghost use Rattle.sqlite_wal.specs.Files.{image_at};

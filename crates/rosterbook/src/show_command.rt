@@ -1,5 +1,5 @@
 //! `rosterbook roster`, `limits`, `pairing`, `exceedances`, `members` and `pairings`: a text by what a book shows.
-//! Worked texts: `tests/reports.py`. Wrong bodies: `must-fail/`.
+//! Worked texts: `tests/reports.py`. Wrong bodies: `must-fail-more/`.
 ghost use Rattle.std.specs.Prelude.{◌≡◌, IfErr, IfOk, IsErr, None};
 ghost use Rattle.std.specs.Option.{option_copied};
 ghost use Rattle.sqlite_wal.specs.Files.{image_at};

@@ -1,4 +1,4 @@
-//! A store as a source that is read by key.
+//! A store as a source that is read by key. Wrong bodies: `must-fail-more/`.
 
 use crate::store::Store;
 use command::{Key, Member};

@@ -1,6 +1,6 @@
 //! The tables of a book as a state: made, loaded, read by key, and changed by commits. What these come to are the
 //! records of `writing/specs/Commits.antt` and of `specs/Loaded.antt`.
-//! Through the program: `tests/tables.py`. Wrong bodies: `must-fail/`.
+//! Through the program: `tests/tables.py`. Wrong bodies: `must-fail/` and `must-fail-more/`.
 ghost use Rattle.std.specs.Prelude.{ℕ, List, Result, ◌≡◌, ◌↔◌, IfOk, IfErr, IsErrAnd, OnOk, Err};
 ghost use Rattle.sqlite.specs.State.{HasCleanDisk};
 ghost use Rattle.sqlite.specs.Held.{state};

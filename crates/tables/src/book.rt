@@ -1,5 +1,5 @@
 //! The table `book`: the one row that says what the file is.
-//! Its rows, right and damaged: `tests/tables.py`.
+//! Its rows, right and damaged: `tests/tables.py`. Wrong bodies: `must-fail-more/`.
 
 ghost use Rattle.std.specs.Prelude.{⊤, [], ◌∷◌, map, pos, IfErr, IfOk, IsTrue, ◌↔◌, ◌≡◌};
 ghost use Rattle.sqlite_value.specs.declared.value.Value.TheVariants as value;

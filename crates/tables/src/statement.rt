@@ -1,4 +1,4 @@
-//! The one call by which the functions of the tables change rows: a single statement.
+//! The one call by which the functions of the tables change rows: a single statement. Wrong bodies: `must-fail-more/`.
 ghost use Rattle.sqlite.specs.Values.{bound};
 ghost use Rattle.sqlite.specs.State.{HasCleanDisk, IsLive, Survives, CommitsBy};
 ghost use Rattle.sqlite.specs.Held.{state};

@@ -1,5 +1,5 @@
 //! The faults of a call on a table, of which a crate above makes 90, 91 or 41.
-//! Damaged rows: `tests/tables.py`. Wrong bodies: `must-fail/`.
+//! Damaged rows: `tests/tables.py`. Wrong bodies: `must-fail-more/`.
 use sqlite::{Error, ErrorCode};
 use std::alloc::{AllocError, AllocFailed};
 use std::fmt;

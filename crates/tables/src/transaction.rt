@@ -1,5 +1,4 @@
-//! Transactions as texts of their own, so that the functions on tables serve inside and outside one.
-//! Wrong bodies: `must-fail/`.
+//! Transactions as texts of their own, so that the functions on tables serve inside and outside one. Wrong bodies: `must-fail-more/`.
 
 ghost use Rattle.std.specs.Prelude.{◌≡◌, false, IsTrue};
 ghost use Rattle.sqlite.specs.State.{HasCleanDisk, Survives};

@@ -1,5 +1,5 @@
 //! Instants: whole minutes of UTC in the years 2000 to 2099, and their written form `YYYY-MM-DDThh:mmZ`.
-//! Texts at each edge of the form and of the calendar: `tests/texts.py`. Wrong bodies: `must-fail/`.
+//! Texts at each edge of the form and of the calendar: `tests/texts.py`. Wrong bodies: `must-fail/` and `must-fail-more/`.
 ghost use Rattle.std.specs.Prelude.{◌≡◌, ◌↔◌, pos, ◌+◌, ◌/◌, ◌<◌, ◌++◌, length, slice_index, unsigned_abs};
 ghost use Rattle.std.specs.Prelude.{IsSome, IfSome, IfOk, OnOk, OnErr};
 ghost use Rattle.std.specs.Char.{IsAsciiDigit};

@@ -1,5 +1,5 @@
 //! Out of memory, the one fault that every call that makes something may have. The program prints it as 91.
-//! Tested by `tests/allocations.py`, which refuses the program one call for memory after the other.
+//! Tested by `tests/allocations.py`, which refuses the program one call for memory after the other. Wrong bodies: `must-fail-more/`.
 use std::alloc::{AllocError, AllocFailed};
 use std::error::Error;
 use std::fmt;

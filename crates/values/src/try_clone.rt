@@ -1,5 +1,4 @@
-//! Copies, each of which may find no memory.
-//! Wrong bodies: `must-fail-more/`, `copy_of_some_is_none`.
+//! Copies, each of which may find no memory. Wrong bodies: `must-fail-more/`.
 ghost use Rattle.std.specs.Prelude.{◌≡◌, IfOk};
 
 use crate::memory_fault::MemoryFault;

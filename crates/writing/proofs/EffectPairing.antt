@@ -17,7 +17,7 @@ use Rattle.roster.specs.State.{State}
 use Rattle.roster.specs.declared.state.PairingEntry.{PairingEntry}
 use Rattle.tables.specs.Rows.{begins_with}
 use Rattle.writing.specs.Calls.{IsFit}
-use Rattle.state_rows.specs.Rows.{StateTable, book, crew, pairing, period, segment, seat, ground_duty, exceedance, request, table, At, PeriodOf, SegmentOf, InTable, InPairing, InPeriod, InSegment, InSeat, Rows, row_of_pairing, row_of_period, row_of_segment}
+use Rattle.state_rows.specs.Rows.{StateTable, crew, pairing, period, segment, seat, At, PeriodOf, SegmentOf, InTable, InPairing, InPeriod, InSegment, InSeat, Rows, row_of_pairing, row_of_period, row_of_segment}
 use Rattle.writing.specs.Writing.{AddsPairing, RemovesPairing}
 use Rattle.writing.proofs.Growing.{SomeOf, placed, some_of, each_grows}
 use Rattle.state_rows.proofs.Lists.{one_value}

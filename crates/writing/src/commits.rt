@@ -1,5 +1,5 @@
 //! What is committed: a book that is made, and a change, each in one transaction.
-//! The rows that each command leaves: `tests/tables.py`. Wrong bodies: `must-fail/`.
+//! The rows that each command leaves: `tests/tables.py`. Wrong bodies: `must-fail/` and `must-fail-more/`.
 
 ghost use Rattle.std.specs.Prelude.{◌≡◌, Err, IfErr, OnOk};
 ghost use Rattle.sqlite.specs.Held.{state};

@@ -1,5 +1,4 @@
-//! A book of version 1 becomes one of version 2, in one transaction.
-//! Wrong bodies: `must-fail/`.
+//! A book of version 1 becomes one of version 2, in one transaction. Wrong bodies: `must-fail/` and `must-fail-more/`.
 
 ghost use Rattle.std.specs.Prelude.{OnErr, OnOk};
 ghost use Rattle.std.specs.FinMap as fin;

@@ -1,6 +1,6 @@
 //! What an accepted command writes, table by table. Each function runs in a transaction that is begun, and after a fault
 //! it has changed nothing that the end of the transaction doesn't take back.
-//! The rows that each command leaves: `tests/tables.py`. Wrong bodies: `must-fail/`.
+//! The rows that each command leaves: `tests/tables.py`. Wrong bodies: `must-fail/` and `must-fail-more/`.
 
 ghost use Rattle.std.specs.Prelude.{◌≡◌, ◌≤◌, ◌<◌, [], ◌∷◌, length, None};
 ghost use Rattle.sqlite.specs.Held.{state};
