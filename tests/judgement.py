@@ -201,21 +201,30 @@ def meeting(new, width):
     return found
 
 
+def reach(new, width):
+    """Where the first of the windows of this width that end or begin beside a new minute begins, and where the last one ends; some is new."""
+    return new.find(1) - width, new.rfind(1) + 1 + width
+
+
 def fullest(held, new, width):
     """The most that a window of this width, of minutes or of days, holds of those that meet a new minute, and where the first one that
     holds as much begins. Of each minute or day it gets how many minutes it holds, and with 1 or 0 whether it has a new one; some has."""
-    first, end = max(new.find(1) - width, 0), new.rfind(1) + 1 + width  # of all windows that meet a new minute
-    before = list(accumulate(chain(repeat(0, width), held[first:end], repeat(0, width)), initial=0))
-    sums, meets = list(map(sub, before[width:], before)), meeting(new[first:end], width)
+    first, end = reach(new, width)
+    reached = chain(repeat(0, -first), held[max(first, 0) : end], repeat(0, end - len(held)))
+    before = list(accumulate(reached, initial=0))
+    sums, meets = list(map(sub, before[width:], before)), meeting(new[first + width : end - width], width)
     most, place = max(compress(sums, meets)), -1
     while place < 0 or not meets[place]:
         place = sums.index(most, place + 1)
-    return most, first - width + place
+    return most, first + place
 
 
 def is_over(held, new, width, most):
     """Whether some window of this width meets a new minute and holds more than `most`."""
-    return 1 in new and sum(held) > most and fullest(held, new, width)[0] > most
+    if 1 not in new:
+        return False
+    first, end = reach(new, width)
+    return sum(held[max(first, 0) : end]) > most and fullest(held, new, width)[0] > most
 
 
 def before(found, report, width):
