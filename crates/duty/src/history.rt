@@ -19,12 +19,23 @@ use values::{MemoryFault, TryClone, copies_of};
 
 /// The duties of a crew member in force, in the order in which they were added. They may overlap. Beside them stand their
 /// minutes of each kind, in order and each minute once.
-#[derive(Drop)]
 pub struct History {
     duties: Vec<DutyInForce>,
     flying: Intervals,
     flight_duty: Intervals,
     on_duty: Intervals,
+}
+
+// (by hand, as that of a duty is)
+impl Drop for History {
+    fn drop(self) {
+        let History {
+            duties: _,
+            flying: _,
+            flight_duty: _,
+            on_duty: _,
+        } = self;
+    }
 }
 
 impl Model for History {

@@ -14,13 +14,26 @@ use time117::Minute;
 use values::{LawfulEq, MemoryFault, TryClone};
 
 /// One flight of a flight duty period, from block-out to block-in.
-#[derive(PartialEq, Eq, Drop)]
+#[derive(PartialEq, Eq)]
 pub struct Segment {
     pub flight: Flight,
     pub from: Airport,
     pub block_out: Minute,
     pub to: Airport,
     pub block_in: Minute,
+}
+
+// (by hand, as that of a duty is)
+impl Drop for Segment {
+    fn drop(self) {
+        let Segment {
+            flight: _,
+            from: _,
+            block_out: _,
+            to: _,
+            block_in: _,
+        } = self;
+    }
 }
 
 impl Segment {

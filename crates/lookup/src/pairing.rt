@@ -101,18 +101,13 @@ fn pairing_of_rows(
     let Some(_) = rows.periods.first() else {
         return Ok(None);
     };
-    let free = match pairing_of_records(alloc, id, &rows.periods, &rows.segments) {
+    let mut pairing = match pairing_of_records(alloc, id, &rows.periods, &rows.segments) {
         Ok(free) => free,
         Err(fault) => return Err(as_store_fault(fault)),
     };
-    let captain = holder_in(alloc, 0, &rows.seats)?;
-    let first_officer = holder_in(alloc, 1, &rows.seats)?;
-    Ok(Some(PairingEntry {
-        plan: free.plan,
-        actuals: free.actuals,
-        captain,
-        first_officer,
-    }))
+    pairing.captain = holder_in(alloc, 0, &rows.seats)?;
+    pairing.first_officer = holder_in(alloc, 1, &rows.seats)?;
+    Ok(Some(pairing))
 }
 
 /// Reads the pairing of an id.

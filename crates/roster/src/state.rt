@@ -14,12 +14,24 @@ use time117::Zone;
 use values::{MemoryFault, OrdKey, OrdMap, Sequence, TryClone};
 
 /// A pairing in the book: its plan, the actual of each period in turn where there is one, and who holds its seats.
-#[derive(PartialEq, Eq, Drop)]
+#[derive(PartialEq, Eq)]
 pub struct PairingEntry {
     pub plan: Pairing,
     pub actuals: Sequence<Option<Actual>>,
     pub captain: Option<CrewId>,
     pub first_officer: Option<CrewId>,
+}
+
+// (by hand, as that of an instruction is)
+impl Drop for PairingEntry {
+    fn drop(self) {
+        let PairingEntry {
+            plan: _,
+            actuals: _,
+            captain: _,
+            first_officer: _,
+        } = self;
+    }
 }
 
 /// A period that a member flew for another certificate holder.
