@@ -7,10 +7,12 @@ mod played;
 
 use crate::copies::entries::{entries, history};
 use crate::copies::played::asked_all;
-use roster::{Roster, Verdict};
+use command::Member;
+use duty::CrewId;
+use roster::{Bases, Roster, Verdict};
 use std::alloc::Global;
 use std::test::Fail;
-use values::TryClone;
+use values::{OrdMap, TryClone};
 
 /// Whether a copy is made, and is equal.
 fn is_copied<T: TryClone + PartialEq>(alloc: Global, value: &T) -> bool {
@@ -71,17 +73,22 @@ fn copied_duties(alloc: Global, roster: &Roster) -> Result<usize, Fail> {
     Ok(history.try_clone(alloc)?.duties().len())
 }
 
-/// The zones at `HOME` and at the bases of the members, each once, in a copy of the bases.
-fn copied_zones(alloc: Global, roster: &Roster) -> Result<String, Fail> {
-    let bases = roster.bases.try_clone(alloc)?;
+/// The zones at `HOME` and at the other bases of the members.
+fn zones_of(alloc: Global, bases: &Bases, crew: &OrdMap<CrewId, Member>) -> Result<String, Fail> {
     let mut zones = String::from_str(alloc, bases.home().text())?;
-    for (_who, member) in roster.crew.iter() {
+    for (_who, member) in crew.iter() {
         if !member.base.is_home() {
             zones.push_str(" ")?;
             zones.push_str(bases.zone_at(&member.base).text())?;
         }
     }
     Ok(zones)
+}
+
+/// The zones of the members' bases in a copy of the bases.
+fn copied_zones(alloc: Global, roster: &Roster) -> Result<String, Fail> {
+    let bases = roster.bases.try_clone(alloc)?;
+    zones_of(alloc, &bases, &roster.crew)
 }
 
 #[test]
