@@ -103,7 +103,7 @@ pub fn lines_of<S: Alter>(
 /// All rows of the tables of a book that are there, as lines that begin with the name of their table.
 pub fn rows_of<S: Alter>(alloc: Global, conn: &mut Connection<S>) -> Result<String, Fault> {
     let mut lines = Vec::new(alloc);
-    for (name, select) in TABLES {
+    for &(name, select) in &TABLES {
         if has_table(conn, name) {
             add_lines(alloc, conn, name, select, &mut lines)?;
         }

@@ -71,12 +71,12 @@ fn ask<S: Alter>(alloc: Global, book: &mut Book<S>, number: u8, text: &str) -> R
 /// Fills a book with all that one can have.
 fn fill<S: Alter>(alloc: Global, book: &mut Book<S>) -> Result<(), Fault> {
     let mut number = 0u8;
-    for (id, times) in PLANS {
+    for &(id, times) in &PLANS {
         number = number.saturating_add(1);
         let text = plan(alloc, id, times)?;
         ask(alloc, book, number, text.as_str())?;
     }
-    for text in FILLED {
+    for &text in &FILLED {
         number = number.saturating_add(1);
         ask(alloc, book, number, text)?;
     }
@@ -108,12 +108,12 @@ fn play_text(alloc: Global, roster: &mut Roster, number: u8, text: &str) -> Resu
 /// Fills a roster as the book is filled.
 fn fill_roster(alloc: Global, roster: &mut Roster) -> Result<(), Fault> {
     let mut number = 0u8;
-    for (id, times) in PLANS {
+    for &(id, times) in &PLANS {
         number = number.saturating_add(1);
         let text = plan(alloc, id, times)?;
         play_text(alloc, roster, number, text.as_str())?;
     }
-    for text in FILLED {
+    for &text in &FILLED {
         number = number.saturating_add(1);
         play_text(alloc, roster, number, text)?;
     }
@@ -152,24 +152,45 @@ fn has_bases(part: &Roster, roster: &Roster) -> bool {
     *part.bases.home() == *roster.bases.home()
 }
 
-/// Adds what the part of a command holds; where it lacks a base, and where the machine answers the command otherwise by the part than
-/// by the roster, that too.
+/// Whether the machine answers a command by the part as by the roster.
+fn answers_as(
+    alloc: Global,
+    part: &Roster,
+    roster: &Roster,
+    (key, command): &(Key, Command),
+) -> Result<bool, Fault> {
+    Ok(part.step(alloc, *key, command)? == roster.step(alloc, *key, command)?)
+}
+
+/// Adds what a part holds; where it lacks a base, and where the machine answers the command otherwise by the part than by the roster, that
+/// too.
+fn add_held(
+    alloc: Global,
+    part: &Roster,
+    roster: &Roster,
+    asked: &(Key, Command),
+    text: &mut String,
+) -> Result<(), Fault> {
+    text.push_str(ids_of(alloc, part)?.as_str())?;
+    if !has_bases(part, roster) {
+        text.push_str("other bases\n")?;
+    }
+    if !answers_as(alloc, part, roster, asked)? {
+        text.push_str("otherwise\n")?;
+    }
+    Ok(())
+}
+
+/// Adds what the part of a command holds.
 fn add_part<S: Alter>(
     alloc: Global,
     store: &mut Store<S>,
     roster: &Roster,
-    (key, command): (Key, Command),
+    asked: &(Key, Command),
     text: &mut String,
 ) -> Result<(), Fault> {
-    let part = store.part(alloc, key, &command)?;
-    text.push_str(ids_of(alloc, &part)?.as_str())?;
-    if !has_bases(&part, roster) {
-        text.push_str("other bases\n")?;
-    }
-    if part.step(alloc, key, &command)? != roster.step(alloc, key, &command)? {
-        text.push_str("otherwise\n")?;
-    }
-    Ok(())
+    let part = store.part(alloc, asked.0, &asked.1)?;
+    add_held(alloc, &part, roster, asked, text)
 }
 
 /// A command of each kind, and then one whose key is held; more of bases, one of which D1 belongs to; and outside periods: a new one,
@@ -236,17 +257,17 @@ const ASKED: [(u8, &str); 19] = [
 /// What is reported of the parts of these commands, and of that of one that adds P7.
 fn parts<S: Alter>(alloc: Global, store: &mut Store<S>, roster: &Roster) -> Result<String, Fault> {
     let mut text = String::new(alloc);
-    for (number, command) in ASKED {
-        let command = read_canonical(alloc, command)?;
-        add_part(alloc, store, roster, (key(number), command), &mut text)?;
+    for &(number, command) in &ASKED {
+        let asked = (key(number), read_canonical(alloc, command)?);
+        add_part(alloc, store, roster, &asked, &mut text)?;
     }
     let again = plan(
         alloc,
         "P7",
         ["07T12:00", "07T13:00", "07T20:00", "07T20:30"],
     )?;
-    let again = read_canonical(alloc, again.as_str())?;
-    add_part(alloc, store, roster, (key(31), again), &mut text)?;
+    let again = (key(31), read_canonical(alloc, again.as_str())?);
+    add_part(alloc, store, roster, &again, &mut text)?;
     Ok(text)
 }
 

@@ -55,7 +55,7 @@ const JUNE: [Flown; 5] = [
 /// Their history.
 fn june(alloc: Global) -> Result<History, Fault> {
     let mut history = History::empty(alloc);
-    for (report, flights, release) in JUNE {
+    for &(report, flights, release) in &JUNE {
         history.add(period(alloc, report, flights, release)?)?;
     }
     Ok(history)
@@ -92,7 +92,7 @@ const RUNS: [(u64, u64); 4] = [
 
 /// Adds how many minutes of flight duty there are before each run, and up to its end.
 fn add_runs(alloc: Global, history: &History, text: &mut String) -> Result<(), Fault> {
-    for (from, to) in RUNS {
+    for &(from, to) in &RUNS {
         let before = history.minutes_before(Kind::FlightDuty, from, from);
         let up_to_end = history.minutes_before(Kind::FlightDuty, to, to);
         text.push_str(&format!(in alloc; " {before}-{up_to_end}")?)?;

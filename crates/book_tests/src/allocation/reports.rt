@@ -29,7 +29,7 @@ impl MemoryReports {
 
     /// Writes a line for each way in which it was reported.
     pub fn print<W: Write>(&self, writer: &mut W) -> io::Result<()> {
-        for (number, is_reported) in [
+        for &(number, is_reported) in &[
             ("91", self.memory),
             ("90", self.store),
             ("503", self.unavailable),

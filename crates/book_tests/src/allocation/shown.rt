@@ -79,12 +79,17 @@ fn text_of<S: Alter>(alloc: Global, book: &mut Book<S>, what: &Show) -> Result<S
     }
 }
 
+/// The text of one report.
+fn shown<S: Alter>(alloc: Global, book: &mut Book<S>, report: Report) -> Result<String, Fault> {
+    let what = show_of(alloc, report)?;
+    text_of(alloc, book, &what)
+}
+
 /// All that a book shows.
 pub fn read_all<S: Alter>(alloc: Global, book: &mut Book<S>) -> Result<String, Fault> {
     let mut all = String::new(alloc);
-    for report in REPORTS {
-        let what = show_of(alloc, report)?;
-        all.push_str(text_of(alloc, book, &what)?.as_str())?;
+    for &report in &REPORTS {
+        all.push_str(shown(alloc, book, report)?.as_str())?;
     }
     Ok(all)
 }

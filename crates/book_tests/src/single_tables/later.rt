@@ -93,27 +93,57 @@ fn segment(
     })
 }
 
+fn add_outside<S: Alter>(
+    alloc: Global,
+    conn: &mut Connection<S>,
+    record: &OutsideRecord,
+) -> Result<(), Fault> {
+    look(alloc, conn)?;
+    Ok(insert_outside(conn, record)?)
+}
+
+fn add_segment<S: Alter>(
+    alloc: Global,
+    conn: &mut Connection<S>,
+    record: &OutsideSegmentRecord,
+) -> Result<(), Fault> {
+    look(alloc, conn)?;
+    Ok(insert_outside_segment(conn, record)?)
+}
+
+fn remove_outside<S: Alter>(
+    alloc: Global,
+    conn: &mut Connection<S>,
+    id: &str,
+) -> Result<(), Fault> {
+    look(alloc, conn)?;
+    Ok(delete_outside(conn, id)?)
+}
+
+fn remove_segments_of<S: Alter>(
+    alloc: Global,
+    conn: &mut Connection<S>,
+    id: &str,
+) -> Result<(), Fault> {
+    look(alloc, conn)?;
+    Ok(delete_outside_segments(conn, id)?)
+}
+
 /// Makes a change.
 fn make<S: Alter>(alloc: Global, conn: &mut Connection<S>, change: Change) -> Result<(), Fault> {
     match change {
         Change::Outside(id, crew, report, release) => {
-            let record = outside(alloc, (id, crew), (report, release))?;
-            look(alloc, conn)?;
-            Ok(insert_outside(conn, &record)?)
+            add_outside(alloc, conn, &outside(alloc, (id, crew), (report, release))?)
         }
         Change::Segment(id, number, block_out, block_in) => {
-            let record = segment(alloc, id, (number, block_out, block_in))?;
-            look(alloc, conn)?;
-            Ok(insert_outside_segment(conn, &record)?)
+            add_segment(
+                alloc,
+                conn,
+                &segment(alloc, id, (number, block_out, block_in))?,
+            )
         }
-        Change::NoOutside(id) => {
-            look(alloc, conn)?;
-            Ok(delete_outside(conn, id)?)
-        }
-        Change::NoSegmentsOf(id) => {
-            look(alloc, conn)?;
-            Ok(delete_outside_segments(conn, id)?)
-        }
+        Change::NoOutside(id) => remove_outside(alloc, conn, id),
+        Change::NoSegmentsOf(id) => remove_segments_of(alloc, conn, id),
     }
 }
 
@@ -154,7 +184,7 @@ fn report_of<S: Alter>(
         make(alloc, conn, *change)?;
     }
     let mut text = String::new(alloc);
-    for search in ALL {
+    for &search in &ALL {
         text.push_str(records_of(alloc, conn, search)?.as_str())?;
     }
     Ok(text)

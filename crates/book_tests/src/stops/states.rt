@@ -103,8 +103,8 @@ pub fn is_part(at: usize) -> bool {
 /// The pairings of the import.
 pub fn pairings(alloc: Global) -> Result<Vec<Pairing>, Fault> {
     let mut pairings = Vec::new(alloc);
-    for planned in [P10, OTHER, P30] {
-        pairings.push(pairing(alloc, &planned)?)?;
+    for planned in &[P10, OTHER, P30] {
+        pairings.push(pairing(alloc, planned)?)?;
     }
     Ok(pairings)
 }
@@ -306,12 +306,12 @@ fn add_rows(alloc: Global, count: usize, lines: &mut Vec<String>) -> Result<(), 
             add_kept(alloc, kept, lines)?;
         }
     }
-    for (command, planned, key) in ADDED {
-        if command <= count {
-            add_planned(alloc, &planned, key, count, lines)?;
+    for (command, planned, key) in &ADDED {
+        if *command <= count {
+            add_planned(alloc, planned, key, count, lines)?;
         }
     }
-    for (command, rows) in OUTSIDE {
+    for &(command, rows) in &OUTSIDE {
         if command == count {
             add_each(alloc, rows, lines)?;
         }

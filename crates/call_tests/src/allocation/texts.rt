@@ -58,6 +58,14 @@ enum Report<'a> {
     Pairings(Listed),
 }
 
+/// The reports that name nobody.
+const LISTS: [Report<'static>; 4] = [
+    Report::Exceedances,
+    Report::Members,
+    Report::Pairings(Listed::All),
+    Report::Pairings(Listed::Open),
+];
+
 /// Makes a report of a list.
 fn as_report(text: Result<String, MemoryFault>) -> Result<String, ReportFault> {
     match text {
@@ -110,12 +118,7 @@ fn all_reports(
     for (id, _rostered) in roster.pairings.iter() {
         add_report(alloc, reports, roster, Report::Pairing(id), &mut text)?;
     }
-    for report in [
-        Report::Exceedances,
-        Report::Members,
-        Report::Pairings(Listed::All),
-        Report::Pairings(Listed::Open),
-    ] {
+    for &report in &LISTS {
         add_report(alloc, reports, roster, report, &mut text)?;
     }
     Ok(text)

@@ -131,7 +131,7 @@ fn head(alloc: Global, length: usize, fields: usize) -> Result<Vec<u8>, Fail> {
 fn a_head_has_at_most_16_384_bytes_and_64_fields(rt: HostRuntime) -> Result<(), Fail> {
     let alloc = rt.alloc();
     let around = head(alloc, 0, 0)?.len();
-    for (length, fields, want) in [
+    for &(length, fields, want) in &[
         (16_384usize.saturating_sub(around), 0, "200 0 exceedances"),
         (16_385usize.saturating_sub(around), 0, "400 - "),
         (20_000, 0, "400 - "),
