@@ -474,6 +474,21 @@ def try_full_errors(desk):
         desk.expect("the end", server.end(), Ran(3, f"listening {server.port}\n", ""))
 
 
+def try_no_more_files(desk):
+    """A server that may open no more files takes no connection, says so of each, and ends after the last. It takes the first one if it
+    waited for that before."""
+    book = desk.book()
+    with serving(book, 4) as server:
+        count = server.open_files()
+        if count is None:
+            desk.skip("the system doesn't say which files a process has open")
+            return
+        resource.prlimit(server.process.pid, resource.RLIMIT_NOFILE, (count, count))
+        taken = server.exchange(HIRE) == response(200, ACCEPTED)
+        desk.expect("the end", server.end(), server.served("refused 93 Network\n" * (4 - taken)))
+    desk.expect("what is kept", [row[:2] for row in book.requests()], [(1, 0)] * taken)
+
+
 def try_kill(desk):
     """What was answered before a server is stopped by a signal is kept. One that isn't given a number goes on."""
     for stop in (signal.SIGTERM, signal.SIGKILL):
@@ -684,7 +699,8 @@ def try_back_up(desk):
 TRIED = (
     try_exchanges, try_answers, try_hour, try_pieces, try_cuts, try_one_exchange, try_expectation, try_large_bodies, try_curl,
     try_misbehaving, try_lost_answer, try_many_at_once, try_life, try_refused_books, try_words, try_other_addresses, try_full_output,
-    try_full_errors, try_kill, try_full_disk, try_full_disk_in_an_import, try_service, try_back_up, try_memory, try_log, try_silence,
+    try_full_errors, try_no_more_files, try_kill, try_full_disk, try_full_disk_in_an_import, try_service, try_back_up, try_memory, try_log,
+    try_silence,
 )  # fmt: skip
 
 

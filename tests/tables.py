@@ -7,12 +7,14 @@ Books of version 1 and of version 2 are made by plain SQL (tests/tables/version_
 with a damage, or with two, of which the first table has to be named (damages.txt), and sound ones, whose answers show how their rows are
 read (answers.txt, of those with a second base bases.txt, and of those with outside periods outside.txt). Books that the program makes are
 read by plain SELECTs: after each order of a story (story.txt), with the longest pairing, with the greatest key, and beside other tables.
-One of them is damaged (late.txt), and the tables of others are offered rows that they have to refuse (refused.txt). The SQL is that of
-Python's own `sqlite3`, of SQLite 3.37 or newer. What differs is printed on standard error. The last line is 'N passed, M failed', and the
-exit status 1 where M isn't 0.
+One of them is damaged (late.txt), and the tables of others are offered rows that they have to refuse (refused.txt). Each subcommand is
+tried on files that are no book, and on books that can't be opened. The SQL is that of Python's own `sqlite3`, of SQLite 3.37 or newer. What
+differs is printed on standard error. The last line is 'N passed, M failed', and the exit status 1 where M isn't 0.
 """
 
+import ctypes
 import json
+import os
 import re
 import shutil
 import sqlite3
@@ -105,9 +107,9 @@ def migrated(lines):
     return sorted([*others, f"book 1|2|{zone}", f"base HOME|{zone}", *(f"crew_base {crew}|HOME" for crew in members)])
 
 
-def ran(*words, given=""):
+def ran(*words, given="", **options):
     """What the program writes, standard error after `! `, and its exit status where that isn't 0."""
-    done = rosterbook(*words, given=given)
+    done = rosterbook(*words, given=given, **options)
     return done.out + "".join(f"! {line}\n" for line in done.err.splitlines()) + (f"[{done.status}]\n" if done.status else "")
 
 
@@ -318,6 +320,67 @@ def try_answer(desk, name, statements, words, wanted):
     desk.expect(f"{name}: {words}", asked(file, rest, number), answer(wanted))
 
 
+# Each subcommand that opens a book, where FILE stands for the file; tests/serve.py tries `serve`.
+SUBCOMMANDS = (
+    "do FILE", "do FILE --dry-run", "do FILE --lines", "do FILE --lines --dry-run", "import FILE 1", "roster FILE C1", "pairing FILE P1",
+    "limits FILE C1", "limits FILE C1 --with P1", "exceedances FILE", "members FILE", "pairings FILE", "pairings FILE --open",
+)  # fmt: skip
+
+
+def expect_refused(desk, name, file, wanted, **options):
+    """That each subcommand is refused with this."""
+    for words in SUBCOMMANDS:
+        called = [file if word == "FILE" else word for word in words.split()]
+        desk.expect(f"{name}: {words}", ran(*called, **options), refused(wanted))
+
+
+def try_subcommands(desk):
+    """What each subcommand says of a file that isn't a book, or of a book that can't be opened. The file keeps what it has."""
+    file = desk.file()
+    expect_refused(desk, "no file", file, "40 NotABook")
+    desk.expect("that no file was made", file.exists(), False)
+    for statements, wanted in (
+        ("CREATE TABLE t (x INTEGER) STRICT", "40 NotABook"),
+        (sound(2) + "DELETE FROM seat WHERE pairing = 'P1' AND seat = 1", "41 Damaged seat"),
+        (sound(2) + "UPDATE book SET version = 3", "42 Version"),
+    ):
+        file = database(desk.file(), statements)
+        before = told(file)
+        expect_refused(desk, statements, file, wanted)
+        desk.expect(f"{wanted}: the rows", told(file), before)
+    file, text = desk.file(), "".join(f"{line}\n" for line in range(1000))
+    file.write_text(text)
+    expect_refused(desk, "a text", file, "90 Store")
+    desk.expect("the text", file.read_text(), text)
+    expect_refused(desk, "a folder", desk.room, "90 Store")
+
+
+def try_rights(desk):
+    """What each subcommand says of a book that may not be read, or not be written."""
+    file = desk.book()
+    before = told(file)
+    for mode in (0o000, 0o200, 0o400):
+        file.chmod(mode)
+        expect_refused(desk, f"rights {mode:03o}", file, "90 Store", preexec_fn=as_another)
+    file.chmod(0o600)
+    desk.expect("with its rights", ran("members", file, preexec_fn=as_another), "MEMBERS 0\n")
+    desk.expect("the rows", told(file), before)
+
+
+def as_another():
+    """Takes from a process of root that it may open each file, whatever the file's rights are."""
+    if os.geteuid() == 0:
+        for capability in (CAP_DAC_OVERRIDE, CAP_DAC_READ_SEARCH):
+            if ctypes.CDLL(None).prctl(PR_CAPBSET_DROP, capability, 0, 0, 0):
+                raise OSError(f"the capability {capability} of root can't be dropped")
+
+
+# As linux/prctl.h and linux/capability.h have them.
+PR_CAPBSET_DROP = 24
+CAP_DAC_OVERRIDE = 1
+CAP_DAC_READ_SEARCH = 2
+
+
 def try_answers(desk):
     for version in (1, 2):
         for statements, words, wanted in answers("answers.txt"):
@@ -457,6 +520,8 @@ TRIED = (
     try_damages,
     try_late_book,
     try_no_books,
+    try_subcommands,
+    try_rights,
     try_answers,
     try_story,
     try_long_pairing,
