@@ -44,16 +44,16 @@ GET /crew/c9 HTTP/1.1|Host: x||
 HTTP/1.1 404 Not Found|Content-Type: application/json|Content-Length: 52|Connection: close||{\"name\":\"NoSuchCrew\",\"refusal\":2,\"result\":\"refused\"}
 HEAD /pairings/P9 HTTP/1.1|Host: x||
 HTTP/1.1 404 Not Found|Content-Type: application/json|Content-Length: 55|Connection: close||
-POST /requests HTTP/1.1|Host: x|Content-Length: 87||{\"number\":3,\"do\":\"add-crew\",\"crew\":\"D1\",\"seat\":\"captain\",\"name\":\"Lee Roy\",\"base\":\"DEN\"}
+POST /requests HTTP/1.1|Host: x|Content-Length: 87||{\"number\":3,\"do\":\"add-crew\",\"crew\":\"C5\",\"seat\":\"captain\",\"name\":\"Lee Roy\",\"base\":\"DEN\"}
 HTTP/1.1 409 Conflict|Content-Type: application/json|Content-Length: 53|Connection: close||{\"name\":\"NoSuchBase\",\"refusal\":20,\"result\":\"refused\"}
 POST /requests HTTP/1.1|Host: x|Content-Length: 73||{\"number\":3,\"do\":\"add-base\",\"base\":\"DEN\",\"zone\":\"MST7MDT,M3.2.0,M11.1.0\"}
 HTTP/1.1 200 OK|Content-Type: application/json|Content-Length: 38|Connection: close||{\"exceedances\":[],\"result\":\"accepted\"}
 POST /requests HTTP/1.1|Host: x|Content-Length: 73||{\"number\":4,\"do\":\"add-base\",\"base\":\"DEN\",\"zone\":\"MST7MDT,M3.2.0,M11.1.0\"}
 HTTP/1.1 409 Conflict|Content-Type: application/json|Content-Length: 53|Connection: close||{\"name\":\"BaseExists\",\"refusal\":21,\"result\":\"refused\"}
-POST /requests HTTP/1.1|Host: x|Content-Length: 87||{\"number\":4,\"do\":\"add-crew\",\"crew\":\"D1\",\"seat\":\"captain\",\"name\":\"Lee Roy\",\"base\":\"DEN\"}
+POST /requests HTTP/1.1|Host: x|Content-Length: 87||{\"number\":4,\"do\":\"add-crew\",\"crew\":\"C5\",\"seat\":\"captain\",\"name\":\"Lee Roy\",\"base\":\"DEN\"}
 HTTP/1.1 200 OK|Content-Type: application/json|Content-Length: 38|Connection: close||{\"exceedances\":[],\"result\":\"accepted\"}
-GET /crew/D1 HTTP/1.1|Host: x||
-HTTP/1.1 200 OK|Content-Type: text/plain; charset=utf-8|Content-Length: 35|Connection: close||ROSTER D1 captain Lee Roy_base DEN_
+GET /crew/C5 HTTP/1.1|Host: x||
+HTTP/1.1 200 OK|Content-Type: text/plain; charset=utf-8|Content-Length: 35|Connection: close||ROSTER C5 captain Lee Roy_base DEN_
 ";
 
 /// Which exchange of a row is tried, by its reader and its writer.

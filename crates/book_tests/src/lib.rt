@@ -1,7 +1,7 @@
 //! Tests of a book over memory: what it answers in one session, asked one by one or all in one run, and which rows are then in the
 //! tables; the part of the state that a command needs; a book stopped at each call on its files, also where that is one of version 1;
-//! one that finds no memory; exchanges of HTTP with a book; and one over a loopback connection. Tests of single tables: what their
-//! functions find by key, and what they add and remove; and a transaction that can't be taken back.
+//! one that finds no memory; exchanges of HTTP with a book; and one over a loopback connection. A book in a file of the machine. Tests of
+//! single tables: what their functions find by key, and what they add and remove; and a transaction that can't be taken back.
 #![tactic(auto)]
 
 #[cfg(test)]
@@ -12,6 +12,8 @@ mod contents;
 mod exchanges;
 #[cfg(test)]
 mod fault;
+#[cfg(test)]
+mod files;
 #[cfg(test)]
 mod loopback;
 #[cfg(test)]

@@ -18,7 +18,7 @@ use stored_json::read_canonical;
 use time117::Zone;
 use values::{OrdMap, TryClone};
 
-/// The pairings of the book: C1 holds P7, P8, P13A and P13B, F1 holds P13A, and C2 holds P91. P92 is free, and D1 holds none.
+/// The pairings of the book: C1 holds P7, P8, P13A and P13B, F1 holds P13A, and C2 holds P91. P92 is free, and C5 holds none.
 const PLANS: [(&str, [&str; 4]); 6] = [
     ("P7", ["07T12:00", "07T13:00", "07T20:00", "07T20:30"]),
     ("P8", ["08T12:00", "08T13:00", "08T20:00", "08T20:30"]),
@@ -193,7 +193,7 @@ fn add_part<S: Alter>(
     add_held(alloc, &part, roster, asked, text)
 }
 
-/// A command of each kind, and then one whose key is held; more of bases, one of which D1 belongs to; and outside periods: a new one,
+/// A command of each kind, and then one whose key is held; more of bases, one of which C5 belongs to; and outside periods: a new one,
 /// one of another member, and one that is replaced.
 const ASKED: [(u8, &str); 19] = [
     (
@@ -235,7 +235,7 @@ const ASKED: [(u8, &str); 19] = [
     (31, AT_NO_BASE),
     (
         31,
-        "{\"crew\":\"D1\",\"do\":\"assign\",\"pairing\":\"P92\"}",
+        "{\"crew\":\"C5\",\"do\":\"assign\",\"pairing\":\"P92\"}",
     ),
     (
         31,
@@ -313,9 +313,9 @@ const EXPECTED: &str = "P13A P13B P7 P8 P92 | C1 F1 | G1 | X1 | 0 0\n\
     | C2 | G2 | | 0 1\n\
     | | | | 0 0\n\
     | | | | 0 0\n\
-    | D1 | | | 0 0\n\
+    | C5 | | | 0 0\n\
     | | | | 0 0\n\
-    P92 | D1 | | | 0 0\n\
+    P92 | C5 | | | 0 0\n\
     P13A | C1 F1 | | | 0 0\n\
     P13A P13B P7 P8 | C1 C2 F1 | G1 | X1 X2 | 0 0\n\
     P13A P13B P7 P8 | C1 F1 | G1 | X1 | 0 0\n\

@@ -17,13 +17,13 @@ pub const OFFICER: &str =
 pub const DENVER: &str =
     "{\"base\":\"DEN\",\"do\":\"add-base\",\"zone\":\"MST7MDT,M3.2.0,M11.1.0\"}";
 
-/// D1, a captain, belongs to it.
+/// C5, a captain, belongs to it.
 pub const AT_DENVER: &str =
-    "{\"base\":\"DEN\",\"crew\":\"D1\",\"do\":\"add-crew\",\"name\":\"Lee Roy\",\"seat\":\"captain\"}";
+    "{\"base\":\"DEN\",\"crew\":\"C5\",\"do\":\"add-crew\",\"name\":\"Lee Roy\",\"seat\":\"captain\"}";
 
-/// D2 is to belong to a base that isn't there.
+/// C6 is to belong to a base that isn't there.
 pub const AT_NO_BASE: &str =
-    "{\"base\":\"BOI\",\"crew\":\"D2\",\"do\":\"add-crew\",\"name\":\"Lee Roy\",\"seat\":\"captain\"}";
+    "{\"base\":\"BOI\",\"crew\":\"C6\",\"do\":\"add-crew\",\"name\":\"Lee Roy\",\"seat\":\"captain\"}";
 
 /// P1 has two flights on 10 June 2025.
 pub const PLAN: &str = "{\"do\":\"add-pairing\",\"pairing\":\"P1\",\"periods\":[\

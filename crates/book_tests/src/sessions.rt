@@ -164,7 +164,7 @@ const EXPECTED: &str =
     " + + + + + + 1 4 + + + 10 + + 20 21 | + + + + + + 1 1 + + + 10 + + 20 21\nsame\n\
     seat P1|0|C1\nseat P1|1|F1\n\
     base DEN|MST7MDT,M3.2.0,M11.1.0\nbase HOME|EST5EDT,M3.2.0,M11.1.0\n\
-    member C1|HOME\nmember D1|DEN\nmember F1|HOME\n\
+    member C1|HOME\nmember C5|DEN\nmember F1|HOME\n\
     kept 1\nkept 2\nkept 20\nkept 21\nkept 3\nkept 30\nkept 31\nkept 32\nkept 40\nkept 41\n";
 
 #[test]

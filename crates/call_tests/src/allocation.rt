@@ -103,9 +103,9 @@ LIMITS C2 captain Bo Lind
 117.23(c)(2) 20:00 of 190:00 from 2025-05-14T07:00Z within
 117.25(b) 168:00 of 30:00 P1/1 within
 117.25(e) 168:00 of 10:00 P1/1 within
-ROSTER D1 captain Lee Roy
+ROSTER C5 captain Lee Roy
 base DEN
-LIMITS D1 captain Lee Roy
+LIMITS C5 captain Lee Roy
 117.11(a)(1) - within
 117.13(a) - within
 117.23(b)(1) 0:00 of 100:00 within
@@ -150,7 +150,7 @@ EXCEEDANCES 5
 MEMBERS 4
 C1 captain HOME Ada Ray
 C2 captain HOME Bo Lind
-D1 captain DEN Lee Roy
+C5 captain DEN Lee Roy
 F1 first officer HOME Zoë Roy
 PAIRINGS 3
 P1 2025-06-10T11:00Z 2025-06-11T07:30Z flown C2 F1
