@@ -15,6 +15,7 @@ use Rattle.sqlite_store.specs.declared.store.FileStore.{FileStore}
 use Rattle.loading.specs.Loading.{Justifies}
 use Rattle.entries.specs.declared.fault.LoadFault.{LoadFault}
 use Rattle.roster.specs.State.{State}
+use Rattle.writing.specs.Making.{IsFree}
 use Rattle.store.specs.Found.{IsFoundIn}
 use Rattle.state_rows.specs.Kept.{HoldBookOf, HoldFirstBookOf}
 use Rattle.state_rows.specs.Outcomes.{HoldsNow, IsEither}
@@ -51,6 +52,13 @@ pub record IsFaultOf (image : Image) (fault : LoadFault) : Type 0 where
   pub in_files : AreFoundIn image it.trees
   pub database : IsDatabase it
   pub says : Justifies fault it
+
+-- a database is found in the files, and in it no name of a book's tables is taken
+pub record HasFreeNames (image : Image) : Type 0 where
+  pub it : Database
+  pub in_files : AreFoundIn image it.trees
+  pub database : IsDatabase it
+  pub free : IsFree it.schema
 
 -- ---- What is left
 

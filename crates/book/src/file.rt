@@ -1,5 +1,5 @@
 //! A book in a file: only here are there paths.
-//! Through the program: `tests/program.sh`. Wrong bodies: `must-fail-more/`.
+//! Through the program: `tests/program.sh`. Wrong bodies: `must-fail/` and `must-fail-more/`.
 
 ghost use Rattle.std.specs.Prelude.{◌≡◌, ◌≢◌, ◌⊎◌, false, IfErr, IfOk, IfSome, IsSome, None};
 ghost use Rattle.sqlite_wal.specs.Files.{image_at};
@@ -10,8 +10,9 @@ ghost use Rattle.sqlite.specs.State.{HasCleanDisk};
 ghost use Rattle.loading.specs.Loading.{Justifies};
 ghost use Rattle.roster.specs.State.{State, empty};
 ghost use Rattle.state_rows.specs.Outcomes.{IsOutside};
+ghost use Rattle.writing.specs.Making.{IsFree};
 ghost use Rattle.book.specs.Kept.{IsClean, IsDurablyAt, HasFoundBook};
-ghost use Rattle.book.specs.Found.{IsCleanLeft, IsFaultOf, LeavesBook, IsUnclosed, LeavesByCrash, MeansWhatIsIn};
+ghost use Rattle.book.specs.Found.{HasFreeNames, IsCleanLeft, IsFaultOf, LeavesBook, IsUnclosed, LeavesByCrash, MeansWhatIsIn};
 
 use crate::keeping::Book;
 use sqlite::{Alter, Connection, Error, ErrorCode, FileFrom, FileStore, Files, Start, Wary};
@@ -129,25 +130,20 @@ impl<D: Disk + Drop> Book<FileStore<D>> {
     }
 }
 
-/// Makes an empty book of a zone in a new or empty file, as [`Book::create`] does, and closes it.
-/// A file that `sqlite` doesn't open is 90, or 91 where it finds no memory. `start` stands for what
-/// the files hold.
+/// Makes an empty book of a zone in a new or empty file, as [`Book::create`] does, and closes it: none where a name of its
+/// tables is taken (43). A file that `sqlite` doesn't open is 90, or 91 where it finds no memory. `start` stands for what the
+/// files hold.
 pub fn create_from<S: Start>(
     rt: &HostRuntime,
     path: &str,
     zone: Zone,
     start: S,
 ) -> Result<FilesLeft<FileFrom<S>>, CreateFault>
-    ensures { IfOk result (λ left. IsCleanLeft left → LeavesBook left (empty zone)) }
+    ensures { IfOk result (λ left. IsCleanLeft left
+        → HasFreeNames (image_at S.Start) × LeavesBook left (empty zone)) }
 {
     let book = create_over(rt.alloc(), connect(rt, path, start)?, zone)?;
     Ok(book.close())
-}
-
-/// Makes the book in the file that is there.
-pub fn create_file(rt: &HostRuntime, path: &str, zone: Zone) -> Result<(), CreateFault> {
-    create_from(rt, path, zone, Wary)?;
-    Ok(())
 }
 
 /// Makes the book over a connection.
@@ -157,7 +153,9 @@ fn create_over<S: Alter + Drop>(
     zone: Zone,
 ) -> Result<Book<S>, CreateFault>
     requires { IsOutside (state S.Store conn) }
-    ensures { IfOk result (λ b. IsDurablyAt S.Store b (empty zone)) }
+    ensures free { IfOk result (λ _. IsFree (state S.Store conn).now.schema) }
+    ensures disk { IfOk result (λ b. IsClean S.Store b → HasCleanDisk (state S.Store conn)) }
+    ensures made { IfOk result (λ b. IsDurablyAt S.Store b (empty zone)) }
 {
     match Book::create(alloc, conn, zone) {
         Ok(book) => Ok(book),

@@ -17,7 +17,7 @@ use Rattle.store.specs.declared.show.Show.TheVariants as show
 use Rattle.entries.specs.Faults.{load_text}
 use Rattle.entries.specs.declared.fault.LoadFault.{LoadFault}
 use Rattle.book.specs.Calls.{AreCalls, Call}
-use Rattle.book.specs.Found.{FindsBook, IsCleanLeft, IsFaultOf, IsUnclosed, LeavesBook, LeavesEither}
+use Rattle.book.specs.Found.{FindsBook, HasFreeNames, IsCleanLeft, IsFaultOf, IsUnclosed, LeavesBook, LeavesEither}
 use Rattle.book.specs.Kept.{IsDurablyAt, Kept}
 use Rattle.book.specs.Lives.{acknowledged, in_doubt}
 use Rattle.book.specs.declared.file.FilesLeft.{FilesLeft}
@@ -47,9 +47,10 @@ abbrev pub Account : Type 1
 Account = (State → Type 0) → (State → State) → Type 0
 
 module _ {D : Type 0} {g : Ghosts D} where
-  -- files are left with an empty book of this zone, as long as the disk returns what was written
-  abbrev pub IsLeftEmpty : List ℕ → FilesLeft D g → Type 0
-  IsLeftEmpty zone it = IsCleanLeft it → LeavesBook it (empty zone)
+  -- Files with these contents had no name of a book's tables taken, and are left with an empty book
+  -- of this zone, as long as the disk returns what was written.
+  abbrev pub IsLeftEmpty : Image → List ℕ → FilesLeft D g → Type 0
+  IsLeftEmpty image zone it = IsCleanLeft it → HasFreeNames image × LeavesBook it (empty zone)
 
 module _ {D : Type 0} {g : Ghosts D} (left : Option (FilesLeft D g)) where
   -- An answer was given by the book that files with these contents held, and `left` is left of the
@@ -60,8 +61,8 @@ module _ {D : Type 0} {g : Ghosts D} (left : Option (FilesLeft D g)) where
       (s : State) × FindsBook image s × Says s × LeavesBook it (after s))
 
   -- files are left, with an empty book of this zone
-  abbrev pub AreLeftEmpty : List ℕ → Type 0
-  AreLeftEmpty zone = IsSomeAnd left (IsLeftEmpty zone)
+  abbrev pub AreLeftEmpty : Image → List ℕ → Type 0
+  AreLeftEmpty image zone = IsSomeAnd left (IsLeftEmpty image zone)
 
 -- ---- What is left, whatever the status
 
@@ -225,7 +226,7 @@ module _ {D : Type 0} {g : Ghosts D} (image : Image) (left : Option (FilesLeft D
       ChannelBytes → ChannelBytes → Type 0
   PerformsByFiles (Init file zone) status held out out' err err' =
       PerformsAction (Init file zone) status held out out' err err'
-      × (status ≡ Done → AreLeftEmpty left (string_bytes zone))
+      × (status ≡ Done → AreLeftEmpty left image (string_bytes zone))
   PerformsByFiles (Do file dry_run lines) status held out out' err err' =
       IsDoneAs (IsByFiles left image) dry_run lines held out out' err err' status
   PerformsByFiles (Import file number) status held out out' err err' =
@@ -259,7 +260,7 @@ module _ {D : Type 0} {g : Ghosts D} (image : Image) (left : Option (FilesLeft D
 
   -- what the action leaves of files from which a book was taken up, by what a reader has
   abbrev pub LeavesFiles : Action → ChannelBytes → Type 0
-  LeavesFiles (Init file zone) held = IfSome left (IsLeftEmpty (string_bytes zone))
+  LeavesFiles (Init file zone) held = IfSome left (IsLeftEmpty image (string_bytes zone))
   LeavesFiles (Do file dry_run lines) held = AreLeftByDo left image dry_run lines held
   LeavesFiles (Import file number) held = AreLeftByImport left image number held
   LeavesFiles (Serve file port connections) held = HaveSession left image

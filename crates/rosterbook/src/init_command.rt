@@ -3,6 +3,7 @@
 ghost use Rattle.std.specs.Prelude.{◌≡◌, ◌⊎◌, IfErr, IfOk, IfSome, IsOk, None};
 ghost use Rattle.rosterbook.specs.ByFiles.{AreLeftEmpty, IsLeftEmpty};
 ghost use Rattle.std.specs.Io.KnownBytes.{Appends};
+ghost use Rattle.sqlite_wal.specs.Files.{image_at};
 ghost use Rattle.time117.specs.Local.{is_zone_text};
 ghost use Rattle.rosterbook.specs.Program as spec;
 
@@ -33,8 +34,8 @@ pub(crate) fn answer_init<S: Start, O: Write, E: Write>(
         → spec.IsUnmade (is_zone_text zone.now) status (O.contents out.old) (O.contents out.new)
         (E.contents err.old) (E.contents err.new)) }
     ensures made { IfOk result.done
-        (λ status. status ≡ Status.Done → AreLeftEmpty result.left zone.now) }
-    ensures left { IfSome result.left (IsLeftEmpty zone.now) }
+        (λ status. status ≡ Status.Done → AreLeftEmpty result.left (image_at S.Start) zone.now) }
+    ensures left { IfSome result.left (IsLeftEmpty (image_at S.Start) zone.now) }
     ensures refused { result.refused ≡ None }
 {
     match Zone::read(rt.alloc(), zone) {
@@ -55,10 +56,10 @@ fn make_and_tell<S: Start, O: Write, E: Write>(
     ensures ready { IfOk result.done (λ status.
         (spec.Gives spec.ready status
         (O.contents out.old) (O.contents out.new) (E.contents err.old) (E.contents err.new)
-        × AreLeftEmpty result.left zone)
+        × AreLeftEmpty result.left (image_at S.Start) zone)
         ⊎ ((fault : CreateFault) × spec.Gives (spec.unmade fault) status (O.contents out.old)
         (O.contents out.new) (E.contents err.old) (E.contents err.new) × (out.new ≡ out.old))) }
-    ensures left { IfSome result.left (IsLeftEmpty zone) }
+    ensures left { IfSome result.left (IsLeftEmpty (image_at S.Start) zone) }
     ensures refused { result.refused ≡ None }
 {
     match create_from(rt, file, zone, start) {

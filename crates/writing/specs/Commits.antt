@@ -21,6 +21,8 @@ use Rattle.writing.specs.declared.fault.CreateFault.TheVariants.{Fault, NotEmpty
 
 -- the call that makes a book made the tables of a book in this state
 pub record AreTablesMade (old new : State) (s : roster.State) : Type 0 where
+  -- no name was taken before
+  pub free : IsFree old.now.schema
   -- the book: what a crash leaves, and what is shown
   pub crash : CrashLeaves new (IsJust s)
   pub some_left : CrashLeavesSome new
@@ -28,7 +30,8 @@ pub record AreTablesMade (old new : State) (s : roster.State) : Type 0 where
   -- all that was there, and that nothing else is made: what a crash leaves, and what is shown
   pub others_crash : CrashLeavesOnly new (KeepBeside book_tables old.now)
   pub others_shown : ShowsOnly new (KeepBeside book_tables old.now)
-  -- the limit of a statement's steps, if one is set
+  -- the disk, and the limit of a statement's steps, if one is set
+  pub disk : HasCleanDisk new → HasCleanDisk old
   pub limit : new.step_limit ≡ old.step_limit
 
 -- the call that makes a book made no book, for this fault

@@ -43,11 +43,13 @@ returns-clause-made g c =
     let first = survives_then old begun last _ _ _ (λ _ _ none. none) (λ _ _ none. none) c.in_ok-begin.ensures.crash c.make_tables-done.ensures.left in
     let whole = survives_then old last new _ _ _ (λ _ _ none. absurd none) (λ _ _ reached. reached) first c.end.ensures.crash in
     record {
+      free = free;
       crash = ended_leaves G last c.end.new.conn (empty c.args.zone.now) c.in_ok-end.ensures.ok holds g.met.S.Store.settled;
       some_left = g.met.S.Store.survives c.end.new.conn.store;
       shown = ended_now G last c.end.new.conn (empty c.args.zone.now) c.in_ok-end.ensures.ok holds;
       others_crash = leaves_only G last c.end.new.conn (KeepBeside book_tables old.now) c.in_ok-end.ensures.ok keeps g.met.S.Store.settled;
       others_shown = shows_only last new (KeepBeside book_tables old.now) c.in_ok-end.ensures.ok keeps;
+      disk = λ clean. omega (arith, whole.clean);
       limit = whole.limit;
     }
 
