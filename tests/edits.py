@@ -1,7 +1,7 @@
 #!/usr/bin/env python3
 """Tries wrong bodies, each of which the prover must refuse.
 
-    tests/edits.py [--more] [--built] [--jobs N] [--beside LOG --libraries FOLDER] [CRATE..]
+    tests/edits.py [--more] [--compile] [--built] [--jobs N] [--beside LOG --libraries FOLDER] [CRATE..]
 
 An edit is a file crates/CRATE/must-fail/NAME.edit, or with --more crates/CRATE/must-fail-more/NAME.edit. Its lines are `in: FUNCTION`,
 the function that must be refused, as a check prints it below its crate; `file: PATH`, in the crate; and pairs of `old: TEXT`
@@ -18,6 +18,8 @@ of one function in a *twin*: the function once more, under another name, with it
 there. A function of a trait, or one that calls itself, has no twin: the first check must accept it as it is, and its edits are tried after
 that. So are those of which the twins can't be tried, or the one without the edit isn't accepted. Where a function isn't accepted as it is,
 its edits are tried over the whole crate.
+
+With --compile no proof is tried, and an edit passes that compiles: a change of the sources may spoil one that nothing else tries.
 
 `rt lib` first builds each library that is missing or older than its sources; with --built those that are there are taken as they are, as
 `rt ci` left them: what it has from an earlier run on a machine is older than a fresh clone. With --beside the edits of a crate are tried
@@ -53,6 +55,7 @@ ROOM = 6_000_000  # how many kB have to be free for a check beside `rt ci`
 AT_ONCE = 12  # how many edits one check tries in twins, so that there is memory for it
 ENDED = "rt ci has ended\n"  # the last line of what it says
 HEAD = r"( *)(?:pub(?:\([a-z ]+\))? )?fn "  # how a function begins
+NOBODY = "function_of_no_name"  # a check of a function that isn't there ends before any proof, once the sources are compiled
 TRIED = r"^only=\d+ (?:proved|holes)=\d+"  # what a check says of the functions that it was to try
 
 
@@ -447,18 +450,55 @@ def verdicts(words, crate, edits, by_contracts, kept, when):
         elif is_whole and re.search(r"^logic=proved", said, re.M):
             yield edit, False, "NOT REFUSED"
         else:
-            first = next((line for line in said.splitlines() if "error" in line), said.strip()[-300:])
-            yield edit, False, f"BAD EDIT: no proof was tried: {first}"
+            yield edit, False, f"BAD EDIT: no proof was tried: {first_error(said)}"
 
 
-def try_crate(kit, crate, folder, when):
-    """Tries the crate's edits. Returns the lines to print, each with whether it is of a refusal, and how long that took."""
-    begun, lines, edits = time.monotonic(), [], []
+def first_error(said):
+    return next((line for line in said.splitlines() if "error" in line), said.strip()[-300:])
+
+
+def compilations(words, crate, edits, kept, when):
+    """Compiles edits of one round, and yields of each whether it compiles, and what there is to say."""
+    try:
+        said = check(words, crate, edits, [NOBODY], False, kept, when)
+    except BadEdit as why:
+        said = f"error: {why}"
+    if f"has no function `{NOBODY}`" in said:
+        yield from ((edit, True, "compiles") for edit in edits)
+    elif len(edits) > 1:
+        half = len(edits) // 2
+        yield from compilations(words, crate, edits[:half], kept, when)
+        yield from compilations(words, crate, edits[half:], kept, when)
+    else:
+        yield edits[0], False, f"BAD EDIT: {first_error(said)}"
+
+
+def edits_of(crate, folder):
+    """The crate's edits, and a line for each file that is none."""
+    edits, lines = [], []
     for file in sorted((crate.folder / folder).glob("*.edit")):
         try:
             edits.append(read_edit(file))
         except BadEdit as why:
             lines.append((False, f"{crate.name}/{file.stem}: BAD EDIT: {why}"))
+    return edits, lines
+
+
+def compile_crate(kit, crate, folder, when):
+    """Compiles the crate's edits. Returns the lines to print, each with whether it is of one that compiles, and how long that took."""
+    begun, (edits, lines) = time.monotonic(), edits_of(crate, folder)
+    when.wait_for(crate)
+    with tempfile.TemporaryDirectory(prefix="edits-kept-") as kept:
+        (Path(kept) / "whole").mkdir()
+        for those in rounds(crate, edits):
+            found = compilations(words_of_check(kit, crate), crate, those, Path(kept), when)
+            lines += [(is_well, f"{edit.label}: {text}") for edit, is_well, text in found]
+    return lines, f"{crate.name}: {len(lines)} edits in {time.monotonic() - begun:.0f} seconds"
+
+
+def try_crate(kit, crate, folder, when):
+    """Tries the crate's edits. Returns the lines to print, each with whether it is of a refusal, and how long that took."""
+    begun, (edits, lines) = time.monotonic(), edits_of(crate, folder)
     words = words_of_check(kit, crate)
     when.wait_for(crate)
     with tempfile.TemporaryDirectory(prefix="edits-kept-") as kept:
@@ -511,6 +551,7 @@ def misfits(crate):
 def main():
     asked = argparse.ArgumentParser(description=__doc__.split("\n")[0])
     asked.add_argument("--more", action="store_true", help="try crates/CRATE/must-fail-more")
+    asked.add_argument("--compile", action="store_true", help="see only that they compile")
     asked.add_argument("--built", action="store_true", help="take the libraries that are there as they are")
     asked.add_argument("--jobs", type=int, default=len(os.sched_getaffinity(0)), help="how many crates to try at once")
     asked.add_argument("--beside", metavar="LOG", type=Path, help="try them while rt ci runs, which says this")
@@ -530,24 +571,25 @@ def main():
         if not is_built and subprocess.run([rt, "lib"], cwd=crate.folder).returncode:
             sys.exit(f"tests/edits.py: {crate.name} could not be built")
 
-    refused = failed = 0
+    passed = failed = 0
     # (those with most to prove first; beside `rt ci` those that it proves first)
     if not asked.beside:
         chosen.sort(key=lambda it: -sum(file.stat().st_size for file in it.folder.rglob("*.antt")))
     when = Beside(asked.beside) if asked.beside else Alone()
     with ThreadPoolExecutor(asked.jobs) as pool:
-        for lines, how_long in pool.map(lambda it: try_crate(kit, it, folder, when), chosen):
-            for is_refused, line in lines:
+        tried = compile_crate if asked.compile else try_crate
+        for lines, how_long in pool.map(lambda it: tried(kit, it, folder, when), chosen):
+            for is_well, line in lines:
                 print(line, flush=True)
-                refused, failed = refused + is_refused, failed + (not is_refused)
+                passed, failed = passed + is_well, failed + (not is_well)
             print(how_long, flush=True)
-    if not asked.more and not asked.crates:
+    if not asked.more and not asked.compile and not asked.crates:
         when.wait_for_all()
         for crate in known.values():
             told = [*misfits(crate)]
             print(*told, sep="\n", end="\n" * bool(told))
-            refused, failed = refused + (not told), failed + len(told)
-    print(f"{refused} passed, {failed} failed")
+            passed, failed = passed + (not told), failed + len(told)
+    print(f"{passed} passed, {failed} failed")
     return 1 if failed else 0
 
 
