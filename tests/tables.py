@@ -367,18 +367,18 @@ def try_rights(desk):
     desk.expect("the rows", told(file), before)
 
 
+# As linux/prctl.h and linux/capability.h have them.
+PR_CAPBSET_DROP = 24
+CAP_DAC_OVERRIDE = 1
+CAP_DAC_READ_SEARCH = 2
+
+
 def as_another():
     """Takes from a process of root that it may open each file, whatever the file's rights are."""
     if os.geteuid() == 0:
         for capability in (CAP_DAC_OVERRIDE, CAP_DAC_READ_SEARCH):
             if ctypes.CDLL(None).prctl(PR_CAPBSET_DROP, capability, 0, 0, 0):
                 raise OSError(f"the capability {capability} of root can't be dropped")
-
-
-# As linux/prctl.h and linux/capability.h have them.
-PR_CAPBSET_DROP = 24
-CAP_DAC_OVERRIDE = 1
-CAP_DAC_READ_SEARCH = 2
 
 
 def try_answers(desk):
