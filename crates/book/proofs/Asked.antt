@@ -1,5 +1,6 @@
 -- From what one command did to what is said of it.
 use Rattle.std.proofs.Common.{◌≡◌, ◌≤◌, arith, inl, inr, refl, sym, ap, subst, ◌∙◌, false, IsTrue, Result, Ok, Err, OnOk, OnErr, IfErr, IfOk}
+use Rattle.std.proofs.lemmas.Bool.{cases_Bool}
 use Rattle.sqlite_trees.specs.Tree.{Trees}
 use Rattle.sqlite.specs.State as conn
 use Rattle.sqlite.specs.State.{HasCleanDisk}
@@ -12,16 +13,19 @@ use Rattle.roster.specs.declared.change.Change.{Change}
 use Rattle.roster.specs.declared.change.Verdict.{Verdict}
 use Rattle.state_rows.specs.declared.fault.StoreFault.{StoreFault}
 use Rattle.state_rows.specs.declared.fault.StoreFault.TheVariants.{Store, Memory}
-use Rattle.lookup.specs.Reads.{ChangesNothing, IsCausedIfStore, IsOpen, IsReadFault, Shows}
+use Rattle.entries.specs.Right.{IsKey}
+use Rattle.lookup.specs.Reads.{ChangesNothing, HasStoreCause, IsOpen, IsReadFault, Shows}
 use Rattle.state_rows.specs.Kept.{HoldBookOf, IsBookOf}
 use Rattle.writing.specs.Beside.{KeepOthers}
 use Rattle.writing.specs.Next.{IsAcceptedChange}
+use Rattle.store.proofs.TypedRows.{typed_right}
+use Rattle.store.specs.Typed.{HasUtf8, IsTypedChange}
 use Rattle.state_rows.specs.Outcomes.{CrashAddsNothing, CrashAddsOnly, HoldsNow, CrashLeaves, CrashLeavesSome, StaysOpen, StillShows, IsEither, IsJust}
 use Rattle.book.specs.Asking.{StepOutcome, Done}
 use Rattle.book.specs.Headline.{MakesNoChange}
-use Rattle.book.specs.Kept.{HasOne, IsAnswerBy, IsKept, Keeps, StillHolds, IsEitherKept, is_store_fault, result_of}
+use Rattle.book.specs.Kept.{HasCauseElsewhere, IsCausedElsewhere, HasOne, IsAnswerBy, IsKept, Keeps, StillHolds, IsEitherKept, is_store_fault, result_of}
 use Rattle.book.specs.declared.answer.Answer.{Answer}
-use Rattle.book.proofs.States.{both_kept, kept_after, shows_still, shown_before, keeps_as, shows_as, either_as, still_as, same_state, one_of_either, still_keeps}
+use Rattle.book.proofs.States.{both_kept, kept_after, kept_instants, shows_still, shown_before, keeps_as, shows_as, either_as, still_as, same_state, one_of_either, still_keeps}
 
 -- ---- Where a state has another name
 
@@ -48,7 +52,7 @@ module _ (now : conn.State) (s t : State) (same : HasCleanDisk now → t ≡ s) 
 
 -- a state that a crash would leave, and that is shown while the connection is open, is shown to who reads by key
 pub shows_it : (now : conn.State) (s : State) → Keeps now s → StillHolds now s → HasCleanDisk now → Shows now s
-shows_it now s keeps shown clean = record { sound = (keeps.kept clean).sound; instants = (keeps.kept clean).instants; book = shown }
+shows_it now s keeps shown clean = record { sound = (keeps.kept clean).sound; instants = kept_instants s (keeps.kept clean); book = shown }
 
 -- what was shown is shown while it is
 pub shown_on : (old new : conn.State) (s : State) → (HasCleanDisk new → HasCleanDisk old) → StillShows old new → StillHolds old s → StillHolds new s
@@ -63,11 +67,25 @@ adds_none now P = record { crash = λ clean trees may. inl may }
 pub adds_nothing_more : (old new : conn.State) (P : Trees → Type 0) → CrashAddsNothing old new → CrashAddsOnly old new P
 adds_nothing_more old new P left = record { crash = λ clean trees may. inl (left.crash clean trees may) }
 
+-- the tables of a book are right, and so are no cause of a fault
+pub elsewhere : (old new : conn.State) (s : State) → Keeps old s → StillHolds old s → HasCleanDisk old → HasStoreCause old new → HasCauseElsewhere old new
+elsewhere old new s keeps shown clean (inl faults) = inl faults
+elsewhere old new s keeps shown clean (inr (inl shut)) = inr (inl shut)
+elsewhere old new s keeps shown clean (inr (inr (inl limit))) = inr (inr limit)
+elsewhere old new s keeps shown clean (inr (inr (inr wrong))) =
+    let kept = keeps.kept clean in
+    elim (cases_Bool old.is_open) [
+      | inl opened ↦ absurd (wrong (s, typed_right s old.now kept.sound kept.typed (inr (shown clean opened))))
+      | inr shut ↦ inr (inl shut)
+    ]
+
 -- a fault of the reads of a book in a state has a cause
 pub read_fault : {A : Type 0} (old new : conn.State) (s : State) (result : Result A StoreFault) → (HasCleanDisk new → HasCleanDisk old) → Keeps old s → StillHolds old s →
-    IfErr result (IsReadFault old new) → IfErr result (IsCausedIfStore old new)
+    IfErr result (IsReadFault old new) → IfErr result (IsCausedElsewhere old new)
 read_fault old new s (Ok a) disk keeps shown fault = tt
-read_fault old new s (Err fault) disk keeps shown is = λ clean. is s (shows_it old s keeps shown (disk clean)) clean
+read_fault old new s (Err fault) disk keeps shown caused = λ clean is.
+    let was = disk clean in
+    elsewhere old new s keeps shown was (caused s (shows_it old s keeps shown was) clean is)
 
 -- ---- The answer that a verdict gives
 
@@ -105,14 +123,14 @@ opens_alike P (Err fault) (Err other) is it = tt
 -- ---- Faults
 
 -- what is answered where nothing is changed is no fault of the store
-pub no_fault : {A : Type 0} (old new : conn.State) (result : Result A StoreFault) → (HasCleanDisk new → is_store_fault result ≡ false) → IfErr result (IsCausedIfStore old new)
+pub no_fault : {A : Type 0} (old new : conn.State) (result : Result A StoreFault) → (HasCleanDisk new → is_store_fault result ≡ false) → IfErr result (IsCausedElsewhere old new)
 no_fault old new (Ok a) none = tt
 no_fault old new (Err Store) none = λ clean is. absurd (let no = none clean in cc)
 no_fault old new (Err Memory) none = λ clean is. absurd (cc)
 
 -- a book means one state, whichever name that has
 pub of_same : {A : Type 0} (old new : conn.State) (it s : State) (asked : Asked) (result : Result A StoreFault) → (HasCleanDisk new → HasCleanDisk old) → (HasCleanDisk old → it ≡ s) →
-    MakesNoChange s asked → (MakesNoChange it asked → IfErr result (IsCausedIfStore old new)) → IfErr result (IsCausedIfStore old new)
+    MakesNoChange s asked → (MakesNoChange it asked → IfErr result (IsCausedElsewhere old new)) → IfErr result (IsCausedElsewhere old new)
 of_same old new it s asked (Ok a) disk same change caused = tt
 of_same old new it s asked (Err fault) disk same change caused = λ clean. caused (subst (λ (x : State). MakesNoChange x asked) (sym (same (disk clean))) change) clean
 
@@ -203,7 +221,11 @@ did_answer now was wanted a keeps shown same = record {
 }
 
 module _ (old new : conn.State) (was : State) (change : Change) (keeps : Keeps old was) (held : StillHolds old was) (next : HasCleanDisk old → IsAcceptedChange was change) (clean : HasCleanDisk new → HasCleanDisk old) (some : CrashLeavesSome new)
-    (others : CrashAddsOnly old new (KeepOthers old.now)) (counts : old.faults ≤ new.faults) (limit : new.step_limit ≡ old.step_limit) where
+    (others : CrashAddsOnly old new (KeepOthers old.now)) (counts : old.faults ≤ new.faults) (limit : new.step_limit ≡ old.step_limit)
+    (types : IsKey change.key × HasUtf8 change.command) where
+  of_types : IsCommand change.command → IsTypedChange change
+  of_types command = record { key = types.0; command = command; utf8 = types.1 }
+
   -- it was kept
   pub did_keep : {A : Type 0} (a : A) → IsCommand change.command →
       (IsAcceptedChange was change → CrashLeaves old (IsJust was) → CrashLeaves new (IsJust (after was change))) →
@@ -219,7 +241,7 @@ module _ (old new : conn.State) (was : State) (change : Change) (keeps : Keeps o
         still_open = λ no. absurd (cc);
         done = (
           record {
-            kept = λ c. let n = next (clean c) in kept_after was n.key n.instruction change n.reply command (keeps.kept (clean c)) n.accepted;
+            kept = λ c. let n = next (clean c) in kept_after was n.key n.instruction change n.reply (of_types command) (keeps.kept (clean c)) n.accepted;
             leaves = record { crash = λ c trees may. (ok (next (clean c)) keeps.leaves).crash c trees may };
             some = some;
           },
@@ -259,7 +281,7 @@ module _ (old new : conn.State) (was : State) (change : Change) (keeps : Keeps o
             let it = (store (next (clean c)) keeps.leaves refl).crash c trees may in
             let n = next (clean c) in
             let first = keeps.kept (clean c) in
-            let second = kept_after was n.key n.instruction change n.reply (command refl) first n.accepted in
+            let second = kept_after was n.key n.instruction change n.reply (of_types (command refl)) first n.accepted in
             (it.0, (it.1, both_kept was (after was change) it.0 it.1 first second), it.2);
       },
       shown_on old new was clean shown held,

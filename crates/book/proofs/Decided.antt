@@ -12,14 +12,14 @@ use Rattle.roster.specs.Steps.{step_of}
 use Rattle.roster.specs.declared.change.Verdict.{Verdict}
 use Rattle.roster.specs.declared.change.Verdict.TheVariants.{Refuse, Repeat}
 use Rattle.state_rows.specs.declared.fault.StoreFault.{StoreFault}
-use Rattle.lookup.specs.Reads.{ChangesNothing, IsCausedIfStore, IsOpen, IsReadFault, Shows}
+use Rattle.lookup.specs.Reads.{ChangesNothing, IsOpen, IsReadFault, Shows}
 use Rattle.state_rows.specs.Outcomes.{CrashLeavesSome}
 use Rattle.book.specs.Asking.{StepOutcome}
 use Rattle.book.specs.Headline.{IsRefusal, MakesNoChange, SparesOthers, Untouched}
-use Rattle.book.specs.Kept.{Keeps, StillHolds, is_store_fault, result_of}
+use Rattle.book.specs.Kept.{IsCausedElsewhere, Keeps, StillHolds, is_store_fault, result_of}
 use Rattle.book.specs.declared.answer.Answer.{Answer}
 use Rattle.book.specs.declared.answer.Answer.TheVariants.{Accepted, Refused}
-use Rattle.book.proofs.Asked.{did_after, did_not_read, no_fault, reply_as, shown_on, shows_it}
+use Rattle.book.proofs.Asked.{did_after, did_not_read, elsewhere, no_fault, reply_as, shown_on, shows_it}
 use Rattle.book.proofs.Sparing.{spares_after}
 use Rattle.book.proofs.States.{still_keeps}
 use Rattle.book.proofs.Untouched.{if_ok, on_ok, read_only, untouched}
@@ -31,7 +31,7 @@ pub record Decided (old new : conn.State) (s : State) (asked : Asked) (result : 
   pub repeated : (reply : Reply) → HasCleanDisk new → step_of s asked.0 asked.1 ≡ Repeat reply → ChangesNothing old new × IfOk result (λ a. a ≡ Accepted reply)
   pub turned_down : (refusal : Refusal) → HasCleanDisk new → step_of s asked.0 asked.1 ≡ Refuse refusal → ChangesNothing old new × IfOk result (λ a. a ≡ Refused refusal)
   pub refused : IfOk result (λ a. IsRefusal a → Untouched old new)
-  pub caused : MakesNoChange s asked → IfErr result (IsCausedIfStore old new)
+  pub caused : MakesNoChange s asked → IfErr result (IsCausedElsewhere old new)
   pub others_spared : OnOk result (Untouched old new ⊎ SparesOthers old new)
 
 -- the verdict could not be read
@@ -43,7 +43,7 @@ not_judged old mid s asked read some keeps shown fault caused = record {
   repeated = λ reply clean is. (read, tt);
   turned_down = λ refusal clean is. (read, tt);
   refused = tt;
-  caused = λ change clean. caused s (shows_it old s keeps shown (read.nothing_new.disk clean)) clean;
+  caused = λ change clean is. let was = read.nothing_new.disk clean in elsewhere old mid s keeps shown was (caused s (shows_it old s keeps shown was) clean is);
   others_spared = tt;
 }
 

@@ -13,6 +13,7 @@ use Rattle.sqlite.specs.Files.{file_state, over_files}
 use Rattle.sqlite.specs.Held.{Held}
 use Rattle.roster.specs.State.{State}
 use Rattle.state_rows.specs.Kept.{HoldBookOf}
+use Rattle.book.proofs.States.{kept_instants}
 use Rattle.book.specs.Found.{HoldsStateAlone, LeavesBook, LeavesByCrash, LeavesEither}
 use Rattle.book.specs.Kept.{IsClean, IsInDoubt, IsKept, Keeps, Kept}
 use Rattle.book.specs.declared.file.FilesLeft.{FilesLeft}
@@ -20,8 +21,9 @@ use Rattle.book.specs.declared.file.FilesLeft.TheVariants.{Closed, Unclosed}
 
 held : (image : Image) (trees : Trees) (s : State) → HoldsAlone image trees → HoldBookOf trees s → IsKept s → HoldsStateAlone image s
 held image trees s holds tables kept = record {
-  both = record { trees = trees; in_files = holds.both; tables = inr tables; kept = kept };
-  alone = record { trees = trees; in_files = holds.alone; tables = inr tables; kept = kept };
+  both = record { trees = trees; in_files = holds.both; tables = inr tables; sound = kept.sound; instants = kept_instants s kept };
+  alone = record { trees = trees; in_files = holds.alone; tables = inr tables; sound = kept.sound; instants = kept_instants s kept };
+  kept = kept;
 }
 
 module _ {D : Type 0} {g : Ghosts D} (c : Held (FileStore D g)) (s : State) (keeps : Keeps (file_state c) s) where

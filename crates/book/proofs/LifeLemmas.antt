@@ -19,7 +19,7 @@ use Rattle.state_rows.specs.Kept.{HoldBookOf}
 use Rattle.state_rows.specs.Outcomes.{CrashLeaves, CrashLeavesSome, IsEither}
 use Rattle.book.specs.Calls.{AreCalls, Call, IsCall}
 use Rattle.book.specs.Kept.{Ends, IsClean, IsDurablyAt, IsKept, Keeps, KeepsEither, Kept, IsEitherKept, is_some_store_fault}
-use Rattle.book.specs.Lives.{AreDone, AreDoneInTurn, EachLifeHolds, GoesOn, IsFoundAt, IsMadeAt, IsOpenedOver, IsReopened, IsReopenedAfter, in_turn, acknowledged, acknowledged_by, answers, doubted_by, in_doubt, is_stopped}
+use Rattle.book.specs.Lives.{AreDone, AreDoneInTurn, EachIsFoundAgain, EachLifeHolds, GoesOn, IsFoundAt, IsLeftOf, IsMadeAt, Life, IsOpenedOver, IsReopened, IsReopenedAfter, in_turn, acknowledged, acknowledged_by, answers, doubted_by, in_doubt, is_stopped}
 use Rattle.book.proofs.CommandLists.{All, all_append, all_drop, all_of, all_take, append_all, append_none, both_none, each_of, fold_append, replies_append, replies_take, second_none, take_more}
 use Rattle.book.proofs.SessionLemmas.{take_whole}
 use Rattle.book.proofs.States.{HoldEither, one_of_either}
@@ -245,6 +245,7 @@ module _ {S : Type 0} (g : Ghosts S) (settled : Settled g) (survives : Survives 
 pub record IsLived (trees : Trees) (s : State) (life : List (List Call)) : Type 0 where
   pub left : State
   pub holds : HoldBookOf trees left
+  pub kept : IsKept left
   pub done : List (List Asked)
   pub are : AreDoneInTurn s life done
   pub fold : left ≡ Fold s (in_turn done)
@@ -290,6 +291,7 @@ module _ {S : Type 0} (g : Ghosts S) (settled : Settled g) (survives : Survives 
       record {
         left = it.0;
         holds = it.2;
+        kept = it.1.1;
         done = x.done ∷ [];
         are = (are_done calls old stopped s it.0 are x fresh at is_clean, tt);
         fold = x.fold ∙ ap (Fold s) (sym (append_none x.done));
@@ -306,6 +308,7 @@ module _ {S : Type 0} (g : Ghosts S) (settled : Settled g) (survives : Survives 
       record {
         left = rest.left;
         holds = rest.holds;
+        kept = rest.kept;
         done = x.done ∷ rest.done;
         are = (are_done calls old stopped s it.0 are x fresh at up.clean, rest.are);
         fold = rest.fold ∙ sym (fold_append s x.done (in_turn rest.done));
@@ -321,24 +324,41 @@ module _ {S : Type 0} (g : Ghosts S) (settled : Settled g) (survives : Survives 
 
 -- ---- Whole lives
 
+module _ {S : Type 0} (g : Ghosts S) (settled : Settled g) (survives : Survives g) (begin : State) (calls : List Call) (later : List (List Call)) (last : Kept S)
+    (life : Life g begin calls later last) where
+  begun : IsMadeAt g begin life.made
+  begun = begins g settled survives begin life.made life.begun
+
+  -- what a crash left is left of the life
+  left_of : HasCleanDisk (state g last.held) → (trees : Trees) → (state g last.held).may_leave trees → (it : IsLived trees begin (calls ∷ later)) × IsLeftOf begin (calls ∷ later) it.left
+  left_of clean trees may =
+      let it = lived g settled survives later calls life.made life.left last begin begun.0 begun.1 life.first life.more clean trees may in
+      let was_clean = clean_before g calls life.made life.left life.first (clean_stopped g settled survives later life.left last life.more clean) in (
+        it,
+        record {
+          done = it.done;
+          are = it.are;
+          fold = it.fold;
+          honest = λ honest. subst Honest (sym it.fold)
+              (stays_honest keeps_sound keeps_honest begin (in_turn it.done) (each_of (in_turn it.done) it.made) (begun.1.kept was_clean).sound honest);
+        },
+      )
+
 pub each_life_holds : {S : Type 0} (g : Ghosts S) → Settled g → Survives g → EachLifeHolds g
-each_life_holds g settled survives begin calls later last life =
-    let begun = begins g settled survives begin life.made life.begun in (
-      record {
-        crash = λ clean trees may.
-            let it = lived g settled survives later calls life.made life.left last begin begun.0 begun.1 life.first life.more clean trees may in
-            let done = in_turn it.done in
-            let was_clean = clean_before g calls life.made life.left life.first (clean_stopped g settled survives later life.left last life.more clean) in (
-              it.left,
-              record {
-                done = it.done;
-                are = it.are;
-                fold = it.fold;
-                honest = λ honest. subst Honest (sym it.fold)
-                    (stays_honest keeps_sound keeps_honest begin done (each_of done it.made) (begun.1.kept was_clean).sound honest);
-              },
-              it.holds,
-            );
-      },
-      leaves_some g settled survives last.held,
-    )
+each_life_holds g settled survives begin calls later last life = (
+  record {
+    crash = λ clean trees may.
+        let it = left_of g settled survives begin calls later last life clean trees may in
+        (it.0.left, it.1, it.0.holds);
+  },
+  leaves_some g settled survives last.held,
+)
+
+pub each_is_found_again : {S : Type 0} (g : Ghosts S) → Settled g → Survives g → EachIsFoundAgain g
+each_is_found_again g settled survives = record {
+  lived = λ begin calls later last life opened is_over.
+      let it = left_of g settled survives begin calls later last life is_over.clean (state g opened).now.trees is_over.left in
+      (it.0.left, opened_keeps g settled survives last.held opened is_over it.0.left (inr it.0.holds) it.0.kept, it.1);
+  kept = λ before opened s keeps is_over.
+      opened_keeps g settled survives before opened is_over s (keeps.leaves.crash is_over.clean (state g opened).now.trees is_over.left) (keeps.kept is_over.clean);
+}

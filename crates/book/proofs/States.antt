@@ -1,29 +1,25 @@
 -- A state that tables may mean stays one after each command, and is the only one that they mean.
-use Rattle.std.proofs.Common.{◌≡◌, ◌⊎◌, inl, inr, refl, sym, ap, subst, ◌∙◌, ℕ, true, cond, List, Some, None}
-use Rattle.std.specs.FinMap as fin
-use Rattle.std.specs.Ordering.{eq_by_cmp}
+use Rattle.std.proofs.Common.{◌≡◌, ◌⊎◌, inl, inr, refl, sym, ap, subst, ◌∙◌, ℕ, true, false, IsTrue, List}
 use Rattle.std.proofs.Math.Logic.{∥∥₁_elim}
 use Rattle.std.specs.Coded.{Coded-set}
-use Rattle.std.proofs.lemmas.Bool.{cases_Bool}
-use Rattle.values.specs.Name.{name_cmp}
 use Rattle.sqlite_schema.specs.declared.schema.Schema.{Schema}
 use Rattle.sqlite_trees.specs.Objects.{catalog_tree}
 use Rattle.sqlite_trees.specs.Tree.{Trees}
+use Rattle.sqlite_trees.specs.declared.store.Store.{Ghosts}
 use Rattle.sqlite_catalog.proofs.ReadLemmas.{lists_once}
 use Rattle.sqlite.specs.State as conn
-use Rattle.sqlite.specs.State.{HasCleanDisk}
+use Rattle.sqlite.specs.State.{HasCleanDisk, IsLive}
 use Rattle.sqlite.specs.Effect.{Database, IsDatabase}
-use Rattle.command.specs.Keys.{KeyParts, key_name}
+use Rattle.sqlite.specs.Held.{Held, state}
+use Rattle.time117.specs.Local.{is_zone_text}
+use Rattle.command.specs.Keys.{KeyParts}
 use Rattle.command.specs.Instructions.{IsMade}
 use Rattle.command.specs.declared.exceedance.Reply.{Reply}
 use Rattle.command.specs.declared.instruction.Instruction.{Instruction}
 use Rattle.command.specs.declared.refusal.Refusal.{Refusal}
-use Rattle.stored_json.specs.Instants.{instruction_has_instants}
-use Rattle.stored_json.specs.Laws.{IsCommand}
 use Rattle.roster.proofs.Accepted.{accepted}
 use Rattle.roster.proofs.KeepsHonest.{keeps_honest}
 use Rattle.roster.proofs.MadeByCommands.{starts_sound}
-use Rattle.roster.proofs.Requests.{get-after}
 use Rattle.roster.proofs.Sound.{keeps_sound}
 use Rattle.roster.specs.Folds.{left_by, next}
 use Rattle.roster.specs.Honest.{Honest}
@@ -34,42 +30,45 @@ use Rattle.roster.specs.declared.change.Change.{Change}
 use Rattle.roster.specs.contracts.state.Roster as roster_type
 use Rattle.roster.specs.declared.change.Verdict.{Verdict}
 use Rattle.roster.specs.declared.change.Verdict.TheVariants.{Accept, Refuse, Repeat}
-use Rattle.roster.specs.declared.state.LoggedCommand.{LoggedCommand}
 use Rattle.entries.specs.SameRows.{EitherRows, HasInstants}
 use Rattle.entries.proofs.SameEditions.{database_holds_one_of_either}
 use Rattle.entries.proofs.SameStates.{database_holds_one_state}
 use Rattle.state_rows.specs.Rows.{FirstRows, Rows}
+use Rattle.entries.specs.declared.fault.LoadFault.{LoadFault}
+use Rattle.loading.specs.Loading.{Justifies}
+use Rattle.loading.specs.Refusals.{tells}
+use Rattle.store.proofs.Loads.{shows_what_is_left}
+use Rattle.store.proofs.StaysTyped.{starts_typed, stays_typed}
+use Rattle.store.proofs.TypedRows.{not_refused, right_typed}
 use Rattle.store.specs.Found.{IsFound}
 use Rattle.store.specs.Loaded.{CrashMayMigrate, IsLoaded}
+use Rattle.store.specs.Typed.{IsTypedChange}
 use Rattle.state_rows.specs.Kept.{IsBookOf, IsFirstBookOf, HoldBookOf, HoldFirstBookOf}
 use Rattle.state_rows.specs.Outcomes.{CrashAddsNothing, HoldsNow, CrashLeaves, CrashLeavesSome, IsEither, IsJust}
 use Rattle.book.specs.Kept.{IsKept, Keeps, KeepsEither, StillHolds, IsEitherKept}
 
-some_same : {A : Type 0} {a b : A} → Some a ≡ Some b → a ≡ b
-some_same e = cc
-
-pub kept_after : (s : State) (key : KeyParts) (instruction : Instruction) (change : Change) (reply : Reply) → IsCommand change.command → IsKept s → step_of s key instruction ≡ Accept change reply → IsKept (after s change)
-kept_after s key instruction change reply is kept step =
+pub kept_after : (s : State) (key : KeyParts) (instruction : Instruction) (change : Change) (reply : Reply) → IsTypedChange change → IsKept s → step_of s key instruction ≡ Accept change reply → IsKept (after s change)
+kept_after s key instruction change reply new kept step =
     let command : change.command ≡ instruction = ap (λ (c : Change). c.command) (accepted s key instruction change reply step).is in
-    let request : LoggedCommand = record { command = change.command; reply = change.reply } in
     record {
-      sound = keeps_sound s key instruction change reply (subst IsMade command is.0) kept.sound step;
-      instants = λ name r here.
-          let told : cond (eq_by_cmp name_cmp name (key_name change.key)) (Some request) (fin.get s.requests name) ≡ Some r = sym (get-after s change name) ∙ here in
-          elim (cases_Bool (eq_by_cmp name_cmp name (key_name change.key))) [
-            | inl tied ↦
-                let e : Some request ≡ Some r = ap (λ b. cond b (Some request) (fin.get s.requests name)) (sym tied) ∙ told in
-                subst (λ (q : LoggedCommand). instruction_has_instants q.command ≡ true) (some_same e) is.1
-            | inr apart ↦ kept.instants name r (ap (λ b. cond b (Some request) (fin.get s.requests name)) (sym apart) ∙ told)
-          ];
+      sound = keeps_sound s key instruction change reply (subst IsMade command new.command.0) kept.sound step;
+      typed = stays_typed s key instruction change reply new kept.sound kept.typed step;
     }
+
+-- the times of the kept commands are instants
+pub kept_instants : (s : State) → IsKept s → HasInstants s
+kept_instants s kept name r here = (kept.typed.requests name r here).2.command.1
+
+-- what is found is a state that tables may mean
+pub found_kept : (s : State) (db : Database) → IsFound s db → IsKept s
+found_kept s db found = record { sound = found.sound; typed = right_typed s db found.right }
 
 -- trees hold one such state at most
 pub one_held : (trees : Trees) (s t : State) → HoldBookOf trees s → HoldBookOf trees t → IsKept s → IsKept t → s ≡ t
 one_held trees s t p q a b =
     let same : p.0 ≡ q.0 = lists_once (trees catalog_tree) p.0 q.0 p.1.database.lists q.1.database.lists in
     let first : IsBookOf s (record { schema = q.0; trees = trees }) = subst (λ (schema : Schema). IsBookOf s (record { schema = schema; trees = trees })) same p.1 in
-    database_holds_one_state s t (record { schema = q.0; trees = trees }) a.sound b.sound a.instants b.instants first.rows q.1.rows
+    database_holds_one_state s t (record { schema = q.0; trees = trees }) a.sound b.sound (kept_instants s a) (kept_instants t b) first.rows q.1.rows
 
 -- trees hold this state, in version 1 or 2
 abbrev pub HoldEither : Trees → State → Type 0
@@ -92,10 +91,13 @@ found_database s db (inl is) = is.database
 found_database s db (inr is) = is.database
 
 -- what is found in trees is the state that they hold
-pub one_found : (db : Database) (s t : State) → IsFound s db → HoldEither db.trees t → IsKept t → s ≡ t
-one_found db s t found holds kept =
-    database_holds_one_of_either s t db found.sound kept.sound found.instants kept.instants (found_rows s db found.book)
+pub one_found : (db : Database) (s t : State) → IsFound s db → HoldEither db.trees t → Sound t → HasInstants t → s ≡ t
+one_found db s t found holds sound instants =
+    database_holds_one_of_either s t db found.sound sound found.instants instants (found_rows s db found.book)
     (rows_here db.schema db.trees t (found_database s db found.book) holds)
+
+one_of_kept : (db : Database) (s t : State) → IsFound s db → HoldEither db.trees t → IsKept t → s ≡ t
+one_of_kept db s t found holds kept = one_found db s t found holds kept.sound (kept_instants t kept)
 
 pub one_state : (s t : State) → IsProp (s ≡ t)
 one_state s t = Coded-set (roster_type.the_row).coded s t
@@ -120,8 +122,8 @@ still_keeps old new s left some keeps = record {
 
 -- what was loaded
 pub loaded : (now : conn.State) (s : State) {db : Database} → (HasCleanDisk now → IsFound s db) → CrashLeaves now (IsJust s) → CrashLeavesSome now → Keeps now s
-loaded now s found leaves some = record {
-  kept = λ clean. record { sound = (found clean).sound; instants = (found clean).instants };
+loaded now s {db} found leaves some = record {
+  kept = λ clean. found_kept s db (found clean);
   leaves = leaves;
   some = some;
 }
@@ -133,7 +135,7 @@ loaded_keeps old new s r it keeps = record {
   leaves = record {
     crash = λ clean trees may.
         let one = it.crash.crash clean trees may in
-        (one.0, one.1 ∙ one_found old.now r s (it.found clean) (keeps.leaves.crash (it.disk clean) old.now.trees (it.left clean)) (keeps.kept (it.disk clean)), one.2);
+        (one.0, one.1 ∙ one_of_kept old.now r s (it.found clean) (keeps.leaves.crash (it.disk clean) old.now.trees (it.left clean)) (keeps.kept (it.disk clean)), one.2);
   };
   some = it.some_left;
 }
@@ -147,7 +149,7 @@ refused_keeps old new s some raise keeps = record {
       | inl was ↦ keeps.leaves.crash (raise.disk clean) trees was
       | inr is ↦
           let before = raise.disk clean in
-          inr (subst (HoldBookOf trees) (one_found old.now is.it s is.found (keeps.leaves.crash before old.now.trees is.left) (keeps.kept before)) is.is)
+          inr (subst (HoldBookOf trees) (one_of_kept old.now is.it s is.found (keeps.leaves.crash before old.now.trees is.left) (keeps.kept before)) is.is)
     ];
   };
   some = some;
@@ -164,19 +166,39 @@ refused_still old new s some raise keeps = record {
           let before = raise.disk clean in
           let at = keeps.leaves.crash before old.now.trees is.left in
           let holds = subst (HoldBookOf old.now.trees) at.1 at.2 in
-          (s, refl, subst (HoldBookOf trees) (one_found old.now is.it s is.found (inr holds) (keeps.kept before)) is.is)
+          (s, refl, subst (HoldBookOf trees) (one_of_kept old.now is.it s is.found (inr holds) (keeps.kept before)) is.is)
     ];
   };
   some = some;
 }
 
--- what was made
-begun_instants : (zone : List ℕ) → HasInstants (empty zone)
-begun_instants zone name r here = let none : None ≡ Some r = sym (fin.get-empty {X = LoggedCommand} name_cmp name) ∙ here in cc
+-- a book that is kept isn't refused for what its tables are
+same_database : (schema : Schema) (trees : Trees) (s : State) → IsDatabase (record { schema = schema; trees = trees }) → HoldEither trees s →
+    IsFirstBookOf s (record { schema = schema; trees = trees }) ⊎ IsBookOf s (record { schema = schema; trees = trees })
+same_database schema trees s database (inl p) =
+    let same : p.0 ≡ schema = lists_once (trees catalog_tree) p.0 schema p.1.database.lists database.lists in
+    inl (subst (λ (it : Schema). IsFirstBookOf s (record { schema = it; trees = trees })) same p.1)
+same_database schema trees s database (inr p) =
+    let same : p.0 ≡ schema = lists_once (trees catalog_tree) p.0 schema p.1.database.lists database.lists in
+    inr (subst (λ (it : Schema). IsBookOf s (record { schema = it; trees = trees })) same p.1)
 
-pub begun_empty : (now : conn.State) (zone : List ℕ) → CrashLeaves now (IsJust (empty zone)) → CrashLeavesSome now → Keeps now (empty zone)
-begun_empty now zone leaves some = record {
-  kept = λ _. record { sound = (starts_sound zone).0; instants = begun_instants zone };
+pub told_by_none : (db : Database) (s : State) (fault : LoadFault) → IsDatabase db → HoldEither db.trees s → IsKept s → Justifies fault db → tells fault ≡ false
+told_by_none db s fault database holds kept says = elim (tells fault) as (λ b. tells fault ≡ b → tells fault ≡ false) [
+  | true ↦ λ told. absurd (not_refused s db fault kept.sound kept.typed (same_database db.schema db.trees s database holds) told says)
+  | false ↦ λ silent. silent
+] refl
+
+pub own_told : {S : Type 0} (g : Ghosts S) (conn : Held S) (s : State) (fault : LoadFault) → KeepsEither (state g conn) s → HasCleanDisk (state g conn) → IsTrue (state g conn).is_open →
+    IsLive (state g conn) → (state g conn).now ≡ (state g conn).committed → ((it : S) → IsTrue (g.view it).is_open → g.recovers it (g.view it).committed) →
+    Justifies fault (state g conn).now → tells fault ≡ false
+own_told g conn s fault keeps clean opened live same stays says =
+    told_by_none (state g conn).now s fault (live opened).0
+    (keeps.leaves.crash clean (state g conn).now.trees (shows_what_is_left g conn opened same stays)) (keeps.kept clean) says
+
+-- what was made
+pub begun_empty : (now : conn.State) (zone : List ℕ) → is_zone_text zone ≡ true → CrashLeaves now (IsJust (empty zone)) → CrashLeavesSome now → Keeps now (empty zone)
+begun_empty now zone rule leaves some = record {
+  kept = λ _. record { sound = (starts_sound zone).0; typed = starts_typed zone rule };
   leaves = leaves;
   some = some;
 }

@@ -13,12 +13,12 @@ use Rattle.roster.specs.Steps.{step_of}
 use Rattle.roster.specs.declared.change.Verdict.TheVariants.{Refuse}
 use Rattle.state_rows.specs.declared.fault.StoreFault.{StoreFault}
 use Rattle.state_rows.specs.declared.fault.StoreFault.TheVariants.{Store, Memory}
-use Rattle.lookup.specs.Reads.{ChangesNothing, IsCausedIfStore}
+use Rattle.lookup.specs.Reads.{ChangesNothing}
 use Rattle.writing.specs.Beside.{KeepOthers}
 use Rattle.state_rows.specs.Outcomes.{CrashAddsOnly, CrashLeaves, CrashLeavesSome, StaysOpen}
 use Rattle.book.specs.Headline.{BreaksNoLimit, IsAcceptance, IsHeld, IsRefusal, KeepsHeld}
 use Rattle.book.specs.Headline.{MakesNoChange, SparesOthers, StaysHeld, Untouched}
-use Rattle.book.specs.Kept.{HasTablesOf, IsDurablyAt, IsClean, IsInDoubt, Kept}
+use Rattle.book.specs.Kept.{IsCausedElsewhere, HasTablesOf, IsDurablyAt, IsClean, IsInDoubt, Kept}
 use Rattle.book.specs.Kept.{StillHasTables, is_store_fault, result_of}
 use Rattle.book.specs.Sessions.{IsAfter, count_of, fault_of}
 use Rattle.book.specs.declared.answer.Answer.{Answer}
@@ -47,7 +47,7 @@ pub record IsAnswered {S : Type 0} (g : Ghosts S) (old new : Kept S) (asked : As
   -- If the command makes no change, the tables are only read: then a fault of the store (90) has a
   -- cause. If it makes one, no cause of a fault of the commit is reported.
   pub caused : (s : State) → IsDurablyAt g old s → MakesNoChange s asked → old.failed ≡ false →
-      IfErr result (IsCausedIfStore (state g old.held) (state g new.held))
+      IfErr result (IsCausedElsewhere (state g old.held) (state g new.held))
   -- a crash in any session, and what is still shown after a fault
   pub sessions : (s : State) (before : List Session) → IsDurablyAt g old (Stopped s before) →
       CrashLeaves (state g new.held)

@@ -1,6 +1,6 @@
 -- What files hold of a book: what is found in the files as they are opened, and what is left of
 -- them.
-use Rattle.std.specs.Prelude.{◌≡◌, ◌⊎◌, [], ⊤}
+use Rattle.std.specs.Prelude.{◌≡◌, ◌⊎◌, true, [], ⊤}
 use Rattle.sqlite_disk.specs.declared.Disk.{Ghosts}
 use Rattle.sqlite_wal.specs.Files.{outcomes}
 use Rattle.sqlite_wal.specs.Reads.{AreClean}
@@ -13,7 +13,10 @@ use Rattle.sqlite.specs.Files.{AreFoundIn, HoldsDatabase, file_state, image_of, 
 use Rattle.sqlite.specs.State as conn
 use Rattle.sqlite_store.specs.declared.store.FileStore.{FileStore}
 use Rattle.loading.specs.Loading.{Justifies}
+use Rattle.loading.specs.Refusals.{tells}
+use Rattle.entries.specs.SameRows.{HasInstants}
 use Rattle.entries.specs.declared.fault.LoadFault.{LoadFault}
+use Rattle.roster.specs.Sound.{Sound}
 use Rattle.roster.specs.State.{State}
 use Rattle.writing.specs.Making.{IsFree}
 use Rattle.store.specs.Found.{IsFoundIn}
@@ -23,13 +26,14 @@ use Rattle.book.specs.Kept.{IsKept, Keeps, Kept, IsEitherKept}
 use Rattle.book.specs.declared.file.FilesLeft.{FilesLeft}
 use Rattle.book.specs.declared.file.FilesLeft.TheVariants.{Closed, Unclosed}
 
--- the database file and its log hold the tables of a book in this state, which tables may mean, in
--- version 1 or 2
+-- the database file and its log hold the tables of a sound book in this state, in version 1 or 2,
+-- and the times of its kept commands are instants
 pub record HoldsState (image : Image) (s : State) : Type 0 where
   pub trees : Trees
   pub in_files : ∥ HoldsDatabase image trees ∥₁
   pub tables : HoldFirstBookOf trees s ⊎ HoldBookOf trees s
-  pub kept : IsKept s
+  pub sound : Sound s
+  pub instants : HasInstants s
 
 -- a sound book in this state is found in the files, and the files hold a book in no other state
 pub record FindsBook (image : Image) (s : State) : Type 0 where
@@ -46,12 +50,14 @@ pub record MeansWhatIsIn (image : Image) (now : conn.State) : Type 0 where
   pub shown : HoldsNow now it
   pub keeps : Keeps now it
 
--- a database is found in the files, and this fault says why it is refused
+-- A database is found in the files, and this fault says why it is refused. If the fault says
+-- something of the database (40, 41, 42), the files hold no state that tables may mean.
 pub record IsFaultOf (image : Image) (fault : LoadFault) : Type 0 where
   pub it : Database
   pub in_files : AreFoundIn image it.trees
   pub database : IsDatabase it
   pub says : Justifies fault it
+  pub holds_none : tells fault ≡ true → (s : State) → HoldsState image s → ¬ IsKept s
 
 -- a database is found in the files, and in it no name of a book's tables is taken
 pub record HasFreeNames (image : Image) : Type 0 where
@@ -62,11 +68,12 @@ pub record HasFreeNames (image : Image) : Type 0 where
 
 -- ---- What is left
 
--- the database file and its log hold a book in this state, and so does the database file with no
--- log
+-- the database file and its log hold a book in this state, which tables may mean, and so does the
+-- database file with no log
 pub record HoldsStateAlone (image : Image) (s : State) : Type 0 where
   pub both : HoldsState image s
   pub alone : HoldsState (record image { log = [] }) s
+  pub kept : IsKept s
 
 module _ {D : Type 0} {g : Ghosts D} where
   -- the disk of the files has returned what was written

@@ -1,7 +1,8 @@
 -- What contracts see of a book, and what a crash leaves of it.
-use Rattle.std.specs.Prelude.{◌≡◌, ℕ, ◌+◌, take, Bool, true, false, List, refl, IsTrue}
+use Rattle.std.specs.Prelude.{◌≡◌, ◌⊎◌, ℕ, ◌+◌, take, Bool, true, false, List, refl, IsTrue}
 use Rattle.std.specs.Prelude.{Result, Ok, Err, Option, Some, None}
 use Rattle.std.specs.Coded.{Coded, code_by, coded×, coded_bool}
+use Rattle.sqlite_disk.specs.Disk.{MoreFaults}
 use Rattle.sqlite_trees.specs.declared.store.Store.{Ghosts}
 use Rattle.sqlite.specs.State as conn
 use Rattle.sqlite.specs.State.{HasCleanDisk}
@@ -10,10 +11,11 @@ use Rattle.roster.specs.Folds.{Asked, Fold, ReplyOrRefusal, answer_of}
 use Rattle.roster.specs.Sound.{Sound}
 use Rattle.roster.specs.State.{State}
 use Rattle.roster.specs.declared.change.Verdict.{Verdict}
-use Rattle.entries.specs.SameRows.{HasInstants}
+use Rattle.tables.specs.Calls.{HasStepLimit}
 use Rattle.state_rows.specs.declared.fault.StoreFault.{StoreFault}
 use Rattle.state_rows.specs.declared.fault.StoreFault.TheVariants.{Store, Memory}
 use Rattle.store.specs.Found.{IsFound}
+use Rattle.store.specs.Typed.{HasTypedParts}
 use Rattle.state_rows.specs.Kept.{IsBookOf}
 use Rattle.state_rows.specs.Outcomes.{CrashLeaves, CrashLeavesEither, CrashLeavesSome}
 use Rattle.state_rows.specs.Outcomes.{HoldsNow, IsJust, IsEither}
@@ -41,10 +43,10 @@ module _ {S : Type 0} (g : Ghosts S) (book : Kept S) where
   abbrev pub HasTablesOf : State → Type 0
   HasTablesOf s = HoldsNow (state g book.held) s
 
--- a state that tables may mean: it is sound, and its kept commands have the instants of their type
+-- a state that tables may mean: it is sound, and its parts are of their types
 pub record IsKept (s : State) : Type 0 where
   pub sound : Sound s
-  pub instants : HasInstants s
+  pub typed : HasTypedParts s
 
 -- one of two states, which tables may mean
 abbrev pub IsEitherKept : State → State → State → Type 0
@@ -94,6 +96,19 @@ pub record HasFoundBook (old now : conn.State) : Type 0 where
   pub found : HasCleanDisk now → IsFound it old.now
   pub shown : HoldsNow now it
   pub keeps : Keeps now it
+
+-- ---- Faults
+
+-- A fault of the store (90) has a cause elsewhere than in the tables. The disk failed or refused a
+-- call meanwhile, or an earlier failure had shut the connection; or a limit is set on the steps of
+-- a statement.
+abbrev pub HasCauseElsewhere : conn.State → conn.State → Type 0
+HasCauseElsewhere old new =
+    MoreFaults old.faults new.faults ⊎ ((old.is_open ≡ false) ⊎ HasStepLimit old)
+
+-- a fault of a call, if it is one of the store (90), has a cause elsewhere than in the tables
+abbrev pub IsCausedElsewhere : conn.State → conn.State → StoreFault → Type 0
+IsCausedElsewhere old new fault = HasCleanDisk new → fault ≡ Store → HasCauseElsewhere old new
 
 -- ---- Answers
 

@@ -142,3 +142,15 @@ EachLifeHolds {S} g =
     Life g begin calls later last →
     CrashLeaves (state g last.held) (IsLeftOf begin (calls ∷ later))
     × CrashLeavesSome (state g last.held)
+
+-- A connection that is opened over what a crash left has the book, in a state that tables may mean.
+-- So `Book::adopt` doesn't refuse the book for its tables (40, 41, 42), as the clause `not_refused`
+-- says.
+pub record EachIsFoundAgain {S : Type 0} (g : Ghosts S) : Type 0 where
+  -- the book had a life, and the state is one that is left of it
+  pub lived : (begin : State) (calls : List Call) (later : List (List Call)) (last : Kept S) →
+      Life g begin calls later last → (opened : Held S) → IsOpenedOver g last.held opened →
+      (s : State) × KeepsEither (state g opened) s × IsLeftOf begin (calls ∷ later) s
+  -- or the book was kept otherwise, as after an opening that took none, and the state is the same
+  pub kept : (before opened : Held S) (s : State) → KeepsEither (state g before) s →
+      IsOpenedOver g before opened → KeepsEither (state g opened) s

@@ -11,7 +11,9 @@ ghost use Rattle.command.specs.declared.refusal.Refusal.{Refusal};
 ghost use Rattle.roster.specs.Folds.{Asked, answer_of, next};
 ghost use Rattle.roster.specs.State.{State, empty};
 ghost use Rattle.roster.specs.Steps.{step_of};
-ghost use Rattle.lookup.specs.Reads.{ChangesNothing, IsCausedIfStore, IsOpen};
+ghost use Rattle.entries.specs.Right.{IsKey};
+ghost use Rattle.loading.specs.Refusals.{tells};
+ghost use Rattle.lookup.specs.Reads.{ChangesNothing, IsOpen};
 ghost use Rattle.writing.specs.Commits.{AreTablesMade, IsNotMade};
 ghost use Rattle.writing.specs.Making.{IsFree};
 ghost use Rattle.state_rows.specs.Outcomes.{CrashLeavesSome, IsOutside};
@@ -19,14 +21,15 @@ ghost use Rattle.book.specs.Answered.{IsAnswered};
 ghost use Rattle.book.specs.Ran.{HasRun};
 ghost use Rattle.book.specs.Asking.{StepOutcome};
 ghost use Rattle.book.specs.Headline.{IsRefusal, SparesOthers};
+ghost use Rattle.store.specs.Typed.{HasUtf8};
 ghost use Rattle.store.specs.Loaded.{IsLoaded, IsNotLoaded};
 ghost use Rattle.store.specs.Shown.{Absence, IsShown};
-ghost use Rattle.book.specs.Kept.{HasOne, HasTablesOf, IsAnswerBy, IsDurablyAt, IsClean, Keeps, KeepsEither, HasFoundBook, StillHolds, is_store_fault, result_of};
+ghost use Rattle.book.specs.Kept.{HasOne, HasTablesOf, IsAnswerBy, IsCausedElsewhere, IsDurablyAt, IsClean, Keeps, KeepsEither, HasFoundBook, StillHolds, is_store_fault, result_of};
 
 use crate::answer::{Answer, Run};
 use command::{Command, Instruction, Key};
 use duty::Pairing;
-use roster::{Roster, Verdict};
+use roster::{Change, Roster, Verdict};
 use sqlite::{Alter, Connection};
 use std::alloc::Global;
 use std::marker::Model;
@@ -88,6 +91,8 @@ impl<S: Alter> Book<S> {
         ensures refused { (¬ IsFree (state S.Store conn).now.schema)
             → IsErrAnd result (λ e. e.0 ≡ CreateFault.NotEmpty) }
     {
+        // A clause of this call says that the zone is a rule text, as its type ensures.
+        let _rule = zone.text();
         match Store::create(alloc, conn, &zone) {
             Ok(store) => Ok(Book::over(store)),
             Err(refused) => Err(refused),
@@ -118,7 +123,16 @@ impl<S: Alter> Book<S> {
             → IfErr result (λ e. Keeps (state S.Store e.1) s) }
         ensures again_either { (s : State) → KeepsEither (state S.Store conn) s
             → IfErr result (λ e. KeepsEither (state S.Store e.1) s) }
+
+        // If a crash leaves one state, which tables may mean, and the connection is open, the book isn't refused for its
+        // tables (40, 41, 42).
+        ensures not_refused { (s : State) → KeepsEither (state S.Store conn) s
+            → IsOpen (state S.Store conn) → IfErr result
+            (λ e. HasCleanDisk (state S.Store e.1) → tells e.0 ≡ false) }
     {
+        // The clauses of these calls say that an open connection shows a database, and outside a transaction what is committed.
+        let _live = conn.schema();
+        let _settled = conn.is_autocommit();
         match Store::load(alloc, conn) {
             Ok(store) => Ok(Book::over(store)),
             Err(refused) => Err(refused),
@@ -158,7 +172,7 @@ impl<S: Alter> Book<S> {
             (state S.Store self.new.held) }
         ensures some_left { CrashLeavesSome (state S.Store self.new.held) }
         ensures caused { self.old.failed ≡ false → IfErr result
-            (IsCausedIfStore (state S.Store self.old.held) (state S.Store self.new.held)) }
+            (IsCausedElsewhere (state S.Store self.old.held) (state S.Store self.new.held)) }
 
         // The text, by the state that the tables mean.
         ensures text { (s : State) → IsDurablyAt S.Store self.old s → IsClean S.Store self.new
@@ -196,7 +210,7 @@ impl<S: Alter> Book<S> {
             (state S.Store self.new.held) }
         ensures some_left { CrashLeavesSome (state S.Store self.new.held) }
         ensures caused { self.old.failed ≡ false → IfErr result
-            (IsCausedIfStore (state S.Store self.old.held) (state S.Store self.new.held)) }
+            (IsCausedElsewhere (state S.Store self.old.held) (state S.Store self.new.held)) }
 
         // The answer, by the state that the tables mean.
         ensures reply { (s : State) → IsDurablyAt S.Store self.old s → IsClean S.Store self.new
@@ -382,6 +396,7 @@ fn decide_by<S: Alter>(
         Verdict::Repeat(reply) => Ok(Answer::Accepted(reply)),
         Verdict::Refuse(refusal) => Ok(Answer::Refused(refusal)),
         Verdict::Accept(change, reply) => {
+            read_types(&change);
             let kept = store.commit(alloc, &change);
             drop(change);
             match kept {
@@ -389,5 +404,23 @@ fn decide_by<S: Alter>(
                 Err(fault) => Err(fault),
             }
         }
+    }
+}
+
+/// Reads of a change what the types of its parts ensure, for the prover alone.
+fn read_types(change: &Change)
+    ensures key { IsKey change.now.key }
+    ensures utf8 { HasUtf8 change.now.command }
+{
+    let _number = change.key.number();
+    let _part = change.key.part();
+    match change.command.instruction() {
+        Instruction::AddCrew(_, member) => {
+            let _name = member.name.as_str().as_bytes();
+        }
+        Instruction::AddGround(ground) => {
+            let _task = ground.task().as_str().as_bytes();
+        }
+        _ => {}
     }
 }

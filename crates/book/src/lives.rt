@@ -1,7 +1,7 @@
 //! What holds of whole lives of a book: the clauses of its calls, sessions and openings, put together.
 //! The definitions are those of `specs/Calls.antt` and `specs/Lives.antt`; the stops of its tests are in `book_tests`.
 ghost use Rattle.book.specs.Calls.{AnswersAreCalls};
-ghost use Rattle.book.specs.Lives.{EachLifeHolds};
+ghost use Rattle.book.specs.Lives.{EachIsFoundAgain, EachLifeHolds};
 
 use crate::keeping::Book;
 use sqlite::Alter;
@@ -19,5 +19,12 @@ impl<S: Alter> Book<S> {
     /// of commands is `laws::each_list_holds`. Of an honest book each limit that a member's duties break has its exceedance.
     pub fn each_life_holds()
         ensures { EachLifeHolds S.Store }
+    {}
+
+    /// Does nothing. Its clause is a law: a connection that is opened over what a crash left of such a life, or of an opening
+    /// that took no book, has the book. [`Book::adopt`] then doesn't refuse it for its tables (40, 41, 42), as its clause
+    /// `not_refused` says.
+    pub fn each_is_found_again()
+        ensures { EachIsFoundAgain S.Store }
     {}
 }

@@ -1,4 +1,8 @@
 pub mod ReadBooks
+pub mod Faultless
+pub mod Utf8Texts
+pub mod StaysTyped
+pub mod TypedRows
 pub mod Loads
 pub mod Parting
 pub mod ShownLemmas

@@ -29,7 +29,7 @@ returns-in-Ok-clause-did g c s asked keeps shown same =
     (λ clean. next_accepted s asked.0 asked.1 change _ (sym verdict ∙ same clean))
     (did_keep old new s change keeps shown
     (λ clean. record { sound = (keeps.kept clean).sound; key = asked.0; instruction = asked.1; reply = _; accepted = sym (sym verdict ∙ same clean) })
-    c.commit-kept.ensures.disk c.commit-kept.ensures.some_left c.commit-kept.ensures.others_left c.commit-kept.ensures.faults c.commit-kept.ensures.limit _ c.in-Ok.ensures.command (c.in-Ok.ensures.crash s) (c.in-Ok.ensures.shown s))
+    c.commit-kept.ensures.disk c.commit-kept.ensures.some_left c.commit-kept.ensures.others_left c.commit-kept.ensures.faults c.commit-kept.ensures.limit (c.read_types.ensures.key, c.read_types.ensures.utf8) _ c.in-Ok.ensures.command (c.in-Ok.ensures.crash s) (c.in-Ok.ensures.shown s))
 
 pub returns-in-Err-clause-did : goal.returns-in-Err-clause-did
 returns-in-Err-clause-did g c s asked keeps shown same =
@@ -41,7 +41,7 @@ returns-in-Err-clause-did g c s asked keeps shown same =
     (λ clean. next_accepted s asked.0 asked.1 change _ (sym verdict ∙ same clean))
     (did_fail old new s change keeps shown
     (λ clean. record { sound = (keeps.kept clean).sound; key = asked.0; instruction = asked.1; reply = _; accepted = sym (sym verdict ∙ same clean) })
-    c.commit-kept.ensures.disk c.commit-kept.ensures.some_left c.commit-kept.ensures.others_left c.commit-kept.ensures.faults c.commit-kept.ensures.limit c.in-Err.fault
+    c.commit-kept.ensures.disk c.commit-kept.ensures.some_left c.commit-kept.ensures.others_left c.commit-kept.ensures.faults c.commit-kept.ensures.limit (c.read_types.ensures.key, c.read_types.ensures.utf8) c.in-Err.fault
     (c.in-Err.ensures.memory s) (c.in-Err.ensures.store s) c.in-Err.ensures.in_doubt c.in-Err.ensures.still_shown c.in-Err.ensures.still_open)
 
 pub returns-in-Ok-clause-others_spared : goal.returns-in-Ok-clause-others_spared
