@@ -7,8 +7,8 @@ short is the status of an error, which says that status alone, or a status and a
 from office import TOP, compact, order, schedule
 
 PHRASES = {
-    200: "OK", 400: "Bad Request", 404: "Not Found", 405: "Method Not Allowed", 409: "Conflict", 411: "Length Required",
-    413: "Payload Too Large", 422: "Unprocessable Entity", 501: "Not Implemented", 503: "Service Unavailable",
+    200: "OK", 400: "Bad Request", 403: "Forbidden", 404: "Not Found", 405: "Method Not Allowed", 409: "Conflict",
+    411: "Length Required", 413: "Payload Too Large", 422: "Unprocessable Entity", 501: "Not Implemented", 503: "Service Unavailable",
 }  # fmt: skip
 CONTINUE = b"HTTP/1.1 100 Continue\r\n\r\n"
 LONGEST = 1_048_576  # bytes of a body
@@ -142,6 +142,11 @@ def exchanges():
         yield sent, wire(sent), wire(written.removesuffix("_") + "\n" * written.endswith("_"))
 
 
+def told(*fields, version="1.1"):
+    """A request for the exceedances with these fields."""
+    return wire("|".join([f"GET /exceedances HTTP/{version}", *fields]) + "||")
+
+
 # Requests, with their answers in short.
 ANSWERS = [
     # Bodies.
@@ -156,6 +161,40 @@ ANSWERS = [
     (wire("GET /exceedances HTTP/1.0||"), NONE_EXCEEDED),
     (wire("GET /exceedances HTTP/1.0|Host: x|Host: y||"), NONE_EXCEEDED),
     (wire("POST /requests HTTP/1.1|Transfer-Encoding: chunked||"), 400),
+    # Hosts by which a page of another site could reach the server, and pages of other origins.
+    *((told(f"Host: {host}"), NONE_EXCEEDED) for host in ["localhost:8117", "LocalHost", "127.0.0.1:8117", "127.0.0.1", "", "2130706433"]),
+    *((told(f"Host: {host}"), 403) for host in [
+        "evil.com", "evil.com:8117", "evil.com.", "x.", "x:8117", "x:", "127.0.0.1.evil.com", "localhost.evil.com", "localhost.",
+        "127.0.0.2:8117", "0.0.0.0:8117", "[::1]:8117", "[::1]", "[::ffff:7f00:1]:8117", "2130706433:8117", "127.1:8117", "127.0.0.1.:8117",
+        "localhost@evil.com", "localhost@evil:8117", "a b.c", ":8117",
+    ]),
+    (told("Host: x", "Origin: http://x"), NONE_EXCEEDED),
+    (told("Host: LOCALHOST:8117", "Origin: \t HTTP://localhost:8117 \t"), NONE_EXCEEDED),
+    *((told("Host: localhost:8117", f"Origin: {origin}"), 403) for origin in [
+        "null", "", "http://localhost", "http://localhost:81", "http://localhost:8118", "http://127.0.0.1:8117", "localhost:8117",
+        "https://localhost:8117", "http://localhost:8117/", "http://localhost:8117 http://evil.com", "http://evil.com",
+    ]),
+    (told("Host: x", "Origin: http://x", "origin: http://x"), 403),
+    (told("Host: evil.com:8117", "Origin: http://evil.com:8117"), 403),
+    (told("Origin: http://x", version="1.0"), 403),
+    (told("Host: x", "Origin: http://x", version="1.0"), NONE_EXCEEDED),
+    (told("Host: x", "Host: x", "Origin: http://x", version="1.0"), 403),
+    (told("Host: x", "Host: evil.com", version="1.0"), 403),
+    (told("Host: evil.com", "Host: x", version="1.0"), 403),
+    (told("Origin: null"), 400),
+    *((told("Host: localhost:8117", f"Sec-Fetch-Site: {site}"), NONE_EXCEEDED) for site in ["none", "same-origin", ""]),
+    (told("Host: localhost:8117", "Sec-Fetch-Site: cross-site", "Sec-Fetch-Dest: script"), 403),
+    (told("Host: x", "sec-fetch-site: \t Same-Site"), 403),
+    (told("Host: x", "Sec-Fetch-Site: none", "Sec-Fetch-Site: cross-site", "Sec-Fetch-Dest: object"), 403),
+    (told("Host: x", "Sec-Fetch-Site: cross-site", "Sec-Fetch-Dest: document"), NONE_EXCEEDED),
+    (told("Host: x", "Origin: http://y", "Sec-Fetch-Site: cross-site", "Sec-Fetch-Dest: document"), 403),
+    (post("/requests", CANCEL, "Content-Type: text/plain", "Origin: http://evil.com"), 403),
+    (post("/nothing", CANCEL, "Origin: null", "Transfer-Encoding: chunked"), 403),
+    (post("/requests", CANCEL, "Origin: null", "Expect: 100-continue"), 403),
+    (wire("POST /requests HTTP/1.1|Host: x|Origin: null||"), 403),
+    (wire("GET /requests HTTP/1.1|Host: x|Origin: null||"), 403),
+    (wire("OPTIONS /requests HTTP/1.1|Host: x|Origin: http://evil.com|Access-Control-Request-Method: POST||"), 403),
+    (wire("GET http://localhost/exceedances HTTP/1.1|Host: evil.com||"), 403),
     # Names in any case, blanks round values, lines that end in LF alone, and empty ones in front.
     (wire("GET /exceedances HTTP/1.1|hOsT:x||"), NONE_EXCEEDED),
     (wire("GET /exceedances HTTP/1.1|Host: \t x \t||"), NONE_EXCEEDED),
