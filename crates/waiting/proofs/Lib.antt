@@ -1,0 +1,5 @@
+pub mod WholeLemmas
+pub mod HandLemmas
+pub mod DialogueLemmas
+pub mod AnsweredLemmas
+pub mod RoomLemmas

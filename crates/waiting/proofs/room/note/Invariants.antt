@@ -1,0 +1,5 @@
+use Rattle.waiting.specs.Rooms.{StayAsFar}
+use Rattle.waiting.proofs.room.note.Given as goal
+
+abbrev pub invariant-loop-connection : goal.invariant-loop-connection
+invariant-loop-connection l = StayAsFar l.fn.connections.items l.connection-items
