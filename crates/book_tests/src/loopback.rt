@@ -5,16 +5,18 @@ use book::Book;
 use sqlite::{Alter, Connection};
 use std::io;
 use std::io::Write;
-use std::net::{Ipv4Addr, TcpListener, TcpStream};
+use std::net::TcpStream;
 use std::test::Fail;
-use web::serve_one;
+use web::{Room, serve_one};
 
 /// What a client gets to the end of its connection for a request that it has written before a book is asked.
 fn response<S: Alter>(rt: &HostRuntime, book: &mut Book<S>, request: &str) -> Result<String, Fail> {
-    let listener = TcpListener::bind(rt, (Ipv4Addr::LOCALHOST, 0))?;
-    let mut client = TcpStream::connect(rt, listener.local_addr()?)?;
+    let mut room = Room::open(rt, rt.alloc(), 0, 1)?;
+    let mut client = TcpStream::connect(rt, room.local_addr()?)?;
     client.write_all(request.as_bytes())?;
-    serve_one(rt.alloc(), &listener, book)?;
+    let Some(Ok(_)) = serve_one(rt.alloc(), rt, &mut room, book) else {
+        return Err(Fail::from("the connection is not served"));
+    };
     Ok(io::read_to_string(rt.alloc(), client)?)
 }
 

@@ -83,7 +83,7 @@ pub enum Action {
         file: String,
         /// The port that is listened on, from 1 to 65,535.
         port: u16,
-        /// How many connections are served, one after the other: 1 to 1,000,000.
+        /// How many connections are served: 1 to 1,000,000.
         connections: u32,
     },
 }

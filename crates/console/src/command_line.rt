@@ -203,7 +203,7 @@ Example:
   curl http://127.0.0.1:8117/crew/C1
 
 Prints 'listening PORT' once clients can connect, and then answers one request
-of HTTP in each connection, one after the other. If a connection fails, it
+of HTTP in each connection, once that has come whole. If a connection fails, it
 prints 'refused 92 Channel' or 'refused 93 Network' on standard error, and
 counts the connection. It ends after N connections, or after an answer 90.
 One program at a time has a book: the others are refused with 90 Store.

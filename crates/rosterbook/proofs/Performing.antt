@@ -39,7 +39,7 @@ module _ {D : Type 0} {g : Ghosts D} (image : Image) (left : Option (FilesLeft D
   performs (Pairings file only_open) it = it.some
   performs (Serve file port connections) it =
       let done = it.3 in
-      record { outcomes = done.served.outcomes; ends = done.ends; each = done.served.each; listens = done.listens; lines = done.served.lines refl }
+      record { outcomes = done.served.0; ends = done.ends; each = done.served.1; listens = done.listens; lines = done.served.2.lines refl }
 
 module _ {D : Type 0} {g : Ghosts D} (image : Image) (left : Option (FilesLeft D g)) (action : Action) (code : ℕ) (held out out' err err' : ChannelBytes) where
   pub performed : IsPerformedByFiles image left action code held out out' err err' → IsPerformed action code held out out' err err'

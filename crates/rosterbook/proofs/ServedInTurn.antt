@@ -1,12 +1,18 @@
--- Connections that were served so far, up to one more.
-use Rattle.std.proofs.Common.{◌≡◌, ◌<◌, ℕ, ◌+◌, ◌&&◌, true, false, Bool, List, [], ◌∷◌, ◌++◌, append-nil, refl, ap, sym, subst, ◌∙◌, length-append, inl, inr, Result, Ok, Err, IfOk, IfErr}
+-- Connections that are over so far, up to one more.
+use Rattle.std.proofs.Common.{◌≡◌, ◌≤◌, ◌<◌, ℕ, zero, suc, sum_by, length, arith, ◌+◌, ◌&&◌, true, false, Bool, List, [], ◌∷◌, ◌++◌, append-nil, refl, ap, sym, subst, ◌∙◌, length-append, inl, inr, Result, Ok, Err, IfOk, IfErr}
 use Rattle.std.proofs.lemmas.List.{append_assoc}
+use Rattle.std.proofs.lemmas.List.Sums.{sum_by_push}
 use Rattle.std.specs.Io.KnownBytes.{Appends}
 use Rattle.sqlite_trees.specs.declared.store.Store.{Ghosts}
 use Rattle.book.specs.Calls.{IsAfterCalls}
 use Rattle.book.specs.Kept.{Kept}
 use Rattle.book.proofs.CallLemmas.{no_calls, then_calls}
-use Rattle.rosterbook.specs.Serving.{AllServed, CutShort, HasEnded, HasFailure, InTurn, IsServeDone, IsServeStopped, Outcome, ServesBook, failure_line, failure_lines, has_failed, port_line, status_of_serve}
+use Rattle.waiting.specs.Answered.{InTurn}
+use Rattle.waiting.specs.Rooms.{IsEmptied, IsOverNext, Outcome, connections_to_come, requests_to_come, untaken}
+use Rattle.waiting.specs.declared.room.Room.{Room}
+use Rattle.waiting.proofs.AnsweredLemmas.{had_not_failed, in_turn_more}
+use Rattle.web.specs.Connections.{IsAnsweredBy, has_failed}
+use Rattle.rosterbook.specs.Serving.{CutShort, HasEnded, HasFailure, IsServeDone, IsServeStopped, ServesBook, failure_line, failure_lines, port_line, status_of_serve}
 use Rattle.rosterbook.specs.declared.status.Status.{Status}
 use Rattle.rosterbook.specs.declared.stop.Stop.{Stop}
 use Rattle.http_exchange.specs.Exchange.{ChannelBytes}
@@ -54,83 +60,99 @@ untold_so_far true told' outcomes outcome first fine lost = failure_last outcome
 
 -- ---- One connection more
 
-module _ {V : Type 0} (serves : V → V → Outcome → Type 0) (fails : V → Bool) where
-  in_turn : (old now new : V) (outcomes : List Outcome) (outcome : Outcome) → InTurn serves fails old now outcomes → serves now new outcome → fails new ≡ false →
-      InTurn serves fails old new (outcomes ++ outcome ∷ [])
-  in_turn old now new [] outcome same served well = (new, subst (λ v. serves v new outcome) same served, well, refl)
-  in_turn old now new (x ∷ outcomes) outcome (next, first, first_well, rest) served well = (next, first, first_well, in_turn next now new outcomes outcome rest served well)
+module _ {S : Type 0} (g : Ghosts S) where
+  -- What is so once these outcomes came: as many connections are over, and so many requests may still
+  -- be asked in the room.
+  pub record IsServedSoFar (count over : ℕ) (room : Room) (old now : Kept S) (err err' : ChannelBytes) (told : Bool) : Type 0 where
+    pub outcomes : List Outcome
+    pub each : length outcomes ≡ over
+    pub asked : ℕ
+    pub answered : InTurn (IsAnsweredBy g) has_failed asked old now
+    pub few : asked + sum_by untaken outcomes + requests_to_come room ≤ count
+    pub is_open : has_failed now ≡ false → over + connections_to_come room ≡ count
+    pub lines : told ≡ true → Appends err err' (failure_lines outcomes)
+    pub untold : told ≡ false → HasFailure outcomes
 
-  pub none_served : (server : V) (err : ChannelBytes) → AllServed serves fails 0 server server err err true
-  none_served server err = record { outcomes = []; each = refl; served = refl; lines = λ all. appends_nothing err; untold = λ lost. absurd (cc) }
+  pub served_before : (count : ℕ) (room : Room) (book : Kept S) (err : ChannelBytes) → requests_to_come room ≡ count → connections_to_come room ≡ count → IsServedSoFar count 0 room book book err err true
+  served_before count room book err requests connections = record {
+    outcomes = [];
+    each = refl;
+    asked = 0;
+    answered = refl;
+    few = omega (arith, requests);
+    is_open = λ fine. omega (arith, connections);
+    lines = λ all. appends_nothing err;
+    untold = λ lost. absurd (cc);
+  }
 
-  module _ (count : ℕ) (old now new : V) (outcome : Outcome) (err err' err'' : ChannelBytes) (told told' : Bool) where
-    pub one_served : AllServed serves fails count old now err err' told → serves now new outcome → fails new ≡ false →
-        (told' ≡ true → Appends err' err'' (failure_line outcome)) → IfOk outcome (λ _. told' ≡ true) → AllServed serves fails (count + 1) old new err err'' (told && told')
-    one_served so_far served well line fine = record {
+  module _ (count over : ℕ) (room room' : Room) (old now new : Kept S) (outcome : Outcome) (err err' err'' : ChannelBytes) (told told' : Bool) where
+    pub one_served : IsServedSoFar count over room old now err err' told → IsOverNext (IsAnsweredBy g) has_failed room room' now new outcome →
+        (told' ≡ true → Appends err' err'' (failure_line outcome)) → IfOk outcome (λ _. told' ≡ true) → IsServedSoFar count (over + 1) room' old new err err'' (told && told')
+    one_served so_far next line fine = record {
       outcomes = so_far.outcomes ++ outcome ∷ [];
       each = length-append so_far.outcomes _ ∙ ap (λ n. n + 1) so_far.each;
-      served = in_turn old now new so_far.outcomes outcome so_far.served served well;
+      asked = so_far.asked + next.asked;
+      answered = in_turn_more (IsAnsweredBy g) has_failed so_far.asked next.asked old now new so_far.answered next.answered;
+      few = omega (arith, so_far.few, next.few, sum_by_push untaken so_far.outcomes outcome);
+      is_open = λ well. omega (arith, next.one well, so_far.is_open (had_not_failed (IsAnsweredBy g) has_failed next.asked now new next.answered well));
       lines = lines_so_far err err' err'' told told' so_far.outcomes outcome so_far.lines line;
       untold = untold_so_far told told' so_far.outcomes outcome so_far.untold fine;
     }
 
-    pub one_failed : (connections : ℕ) → count < connections → AllServed serves fails count old now err err' told → serves now new outcome → fails new ≡ true →
-        (told' ≡ true → Appends err' err'' (failure_line outcome)) → CutShort serves fails connections old new err err'' (told && told')
-    one_failed connections within so_far served failing line = record {
-      outcomes = so_far.outcomes;
-      last = outcome;
-      before = now;
-      fewer = rw so_far.each within;
-      served = so_far.served;
-      failing = served;
-      failed = failing;
-      lines = lines_so_far err err' err'' told told' so_far.outcomes outcome so_far.lines line;
-    }
+  pub serves_book : (count over : ℕ) (room : Room) (old new : Kept S) (err err' : ChannelBytes) (told : Bool) (it : IsServedSoFar count over room old new err err' told) → ServesBook g count it.outcomes old new err err' told
+  serves_book count over room old new err err' told it = record { asked = it.asked; answered = it.answered; few = omega (arith, it.few); lines = it.lines; untold = it.untold }
+
+  -- all connections are over
+  pub all_over : (count over : ℕ) (room : Room) (old new : Kept S) (err err' : ChannelBytes) (told failed : Bool) → IsServedSoFar count over room old new err err' told → over ≡ count →
+      failed ≡ has_failed new → HasEnded g count old new err err' told failed
+  all_over count over room old new err err' told false it all is = ((it.outcomes, it.each ∙ all, serves_book count over room old new err err' told it), sym is)
+  all_over count over room old new err err' told true it all is = (it.outcomes, omega (arith, it.each, all), serves_book count over room old new err err' told it, sym is)
+
+  none_left : (count over : ℕ) (room room' : Room) (old now new : Kept S) (err err' : ChannelBytes) (told failed : Bool) → IsServedSoFar count over room old now err err' told → over < count →
+      IsEmptied (IsAnsweredBy g) has_failed room room' now new → failed ≡ has_failed new → failed ≡ true
+  none_left count over room room' old now new err err' told true it within emptied is = refl
+  none_left count over room room' old now new err err' told false it within emptied is =
+      let well : has_failed new ≡ false = sym is in
+      let left = it.is_open (had_not_failed (IsAnsweredBy g) has_failed emptied.asked now new emptied.answered well) in
+      absurd (omega (arith, left, emptied.none well, within))
+
+  -- no connection is left before all are over, so that the store has failed
+  pub cut_short : (count over : ℕ) (room room' : Room) (old now new : Kept S) (err err' : ChannelBytes) (told : Bool) → IsServedSoFar count over room old now err err' told → over < count →
+      IsEmptied (IsAnsweredBy g) has_failed room room' now new → CutShort g count old new err err' told
+  cut_short count over room room' old now new err err' told it within emptied = (
+    it.outcomes,
+    omega (arith, it.each, within),
+    record {
+      asked = it.asked + emptied.asked;
+      answered = in_turn_more (IsAnsweredBy g) has_failed it.asked emptied.asked old now new it.answered emptied.answered;
+      few = omega (arith, it.few, emptied.few);
+      lines = it.lines;
+      untold = it.untold;
+    },
+    none_left count over room room' old now new err err' told (has_failed new) it within emptied refl,
+  )
 
 -- ---- How serving ended
 
-module _ {V : Type 0} (serves : V → V → Outcome → Type 0) (fails : V → Bool) (port count : ℕ) (old new : V) (out out' err err' : ChannelBytes) where
-  ends : (told failed : Bool) → Appends out out' (port_line port) → HasEnded serves fails count old new err err' told failed →
-      IfOk (status_of_serve failed told) (IsServeDone serves fails port count old new out out' err err')
-      × IfErr (status_of_serve failed told) (IsServeStopped serves fails port count old new out out' err err')
+module _ {S : Type 0} (g : Ghosts S) (port count : ℕ) (old new : Kept S) (out out' err err' : ChannelBytes) where
+  ends : (told failed : Bool) → Appends out out' (port_line port) → HasEnded g count old new err err' told failed →
+      IfOk (status_of_serve failed told) (IsServeDone g port count old new out out' err err')
+      × IfErr (status_of_serve failed told) (IsServeStopped g port count old new out out' err err')
   ends told true listens it = (tt, inr (inr (refl, listens, (told, it))))
-  ends true false listens it = (record { ends = refl; listens = listens; served = it }, tt)
-  ends false false listens it = (tt, inr (inl (refl, listens, it)))
+  ends true false listens it = (record { ends = refl; listens = listens; served = it.0; well = it.1 }, tt)
+  ends false false listens it = (tt, inr (inl (refl, listens, it.0, it.1)))
 
   pub ended_as : (told failed : Bool) (done : Result Status Stop) → done ≡ status_of_serve failed told → Appends out out' (port_line port) →
-      HasEnded serves fails count old new err err' told failed →
-      IfOk done (IsServeDone serves fails port count old new out out' err err') × IfErr done (IsServeStopped serves fails port count old new out out' err err')
+      HasEnded g count old new err err' told failed →
+      IfOk done (IsServeDone g port count old new out out' err err') × IfErr done (IsServeStopped g port count old new out out' err err')
   ended_as told failed done is listens it = rw is (ends told failed listens it)
 
--- what is said of what serves is said of what it has
-module _ {V B : Type 0} (serves : V → V → Outcome → Type 0) (fails : V → Bool) (has : B → B → Outcome → Type 0) (lost : B → Bool) (of : V → B)
-    (step : (old new : V) (outcome : Outcome) → serves old new outcome → has (of old) (of new) outcome) (same : (it : V) → lost (of it) ≡ fails it) where
-  in_turn_of : (old new : V) (outcomes : List Outcome) → InTurn serves fails old new outcomes → InTurn has lost (of old) (of new) outcomes
-  in_turn_of old new [] it = ap of it
-  in_turn_of old new (outcome ∷ outcomes) (next, served, well, rest) = (of next, step old next outcome served, same next ∙ well, in_turn_of next new outcomes rest)
-
-  pub ended_of : (count : ℕ) (old new : V) (err err' : ChannelBytes) (told failed : Bool) → HasEnded serves fails count old new err err' told failed →
-      HasEnded has lost count (of old) (of new) err err' told failed
-  ended_of count old new err err' told false it =
-      record { outcomes = it.outcomes; each = it.each; served = in_turn_of old new it.outcomes it.served; lines = it.lines; untold = it.untold }
-  ended_of count old new err err' told true it = record {
-    outcomes = it.outcomes;
-    last = it.last;
-    before = of it.before;
-    fewer = it.fewer;
-    served = in_turn_of old it.before it.outcomes it.served;
-    failing = step it.before new it.last it.failing;
-    failed = same new ∙ it.failed;
-    lines = it.lines;
-  }
-
--- a book that served connections was called
+-- a book that answered requests was called
 module _ {S : Type 0} (g : Ghosts S) where
-  calls_in_turn : (old new : Kept S) (outcomes : List Outcome) → InTurn (ServesBook g) has_failed old new outcomes → IsAfterCalls g old new
-  calls_in_turn old new [] same = no_calls g same
-  calls_in_turn old new (outcome ∷ outcomes) (next, served, well, rest) = then_calls g served.0.calls (calls_in_turn next new outcomes rest)
+  calls_in_turn : (n : ℕ) (old new : Kept S) → InTurn (IsAnsweredBy g) has_failed n old new → IsAfterCalls g old new
+  calls_in_turn zero old new same = no_calls g same
+  calls_in_turn (suc n) old new (fine, next, (request, response, result, answered), rest) = then_calls g answered.once.calls (calls_in_turn n next new rest)
 
-  pub calls_of_ended : (count : ℕ) (old new : Kept S) (err err' : ChannelBytes) (told failed : Bool) → HasEnded (ServesBook g) has_failed count old new err err' told failed →
-      IsAfterCalls g old new
-  calls_of_ended count old new err err' told false it = calls_in_turn old new it.outcomes it.served
-  calls_of_ended count old new err err' told true it = then_calls g (calls_in_turn old it.before it.outcomes it.served) it.failing.0.calls
+  pub calls_of_ended : (count : ℕ) (old new : Kept S) (err err' : ChannelBytes) (told failed : Bool) → HasEnded g count old new err err' told failed → IsAfterCalls g old new
+  calls_of_ended count old new err err' told false ((outcomes, each, it), well) = calls_in_turn it.asked old new it.answered
+  calls_of_ended count old new err err' told true (outcomes, fewer, it, failed) = calls_in_turn it.asked old new it.answered

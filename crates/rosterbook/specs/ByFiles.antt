@@ -32,7 +32,7 @@ use Rattle.rosterbook.specs.Asking.{asked_by_request, left_by_check, left_by_req
 use Rattle.rosterbook.specs.InLines.{AreRequestsTold, ReadsFirstLines, ReadsLines}
 use Rattle.rosterbook.specs.InLines.{answers_in, commands_in, requests_of}
 use Rattle.rosterbook.specs.Program.{PerformsAction, exit_status}
-use Rattle.rosterbook.specs.Serving.{IsServeDone, IsServeStopped, ServesBook, has_failed}
+use Rattle.rosterbook.specs.Serving.{IsServeDone, IsServeStopped}
 use Rattle.rosterbook.specs.Showing.{IsToldOf, listed_by}
 use Rattle.rosterbook.specs.Streams.{ReadsInput, refused_line}
 use Rattle.rosterbook.specs.declared.status.Status.{Status}
@@ -133,7 +133,7 @@ module _ {D : Type 0} {g : Ghosts D} (left : Option (FilesLeft D g)) (image : Im
       Status → Type 0
   IsServedByFiles port count out out' err err' status =
       (opened : Kept (FileStore D g)) × (last : Kept (FileStore D g)) × IsSession opened last
-      × IsServeDone (ServesBook over_files) has_failed port count opened last out out' err err'
+      × IsServeDone over_files port count opened last out out' err err'
       status
 
   -- if a book was taken up from the files: the port wasn't bound, and nothing was done; or serving
@@ -143,7 +143,7 @@ module _ {D : Type 0} {g : Ghosts D} (left : Option (FilesLeft D g)) (image : Im
   IsServeStoppedByFiles port count out out' err err' stop = IfSome left (λ _.
       (opened : Kept (FileStore D g)) × (last : Kept (FileStore D g)) × IsSession opened last
       × (((stop ≡ Network) × (last ≡ opened) × (out' ≡ out) × (err' ≡ err))
-      ⊎ IsServeStopped (ServesBook over_files) has_failed port count opened last out out' err err'
+      ⊎ IsServeStopped over_files port count opened last out out' err err'
       stop))
 
   -- If files were opened and no book was taken up from them, `refused` is left of the files, and a

@@ -10,51 +10,14 @@ ghost use Rattle.rosterbook.specs.ByFiles.{IsRefusedAs, IsServedByFiles, IsServe
 ghost use Rattle.rosterbook.specs.Serving as spec;
 
 use crate::ended::Ended;
-use crate::serving::{Ending, Server, serve_all};
+use crate::serving::{Ending, serve_all};
 use crate::status::Status;
 use crate::stop::Stop;
-use book::{Book, BookFault, FilesLeft};
-use sqlite::{Alter, FileFrom, FileStore, Start};
-use sqlite_disk::Disk;
-use std::alloc::Global;
+use book::{Book, BookFault};
+use sqlite::{FileFrom, Start};
 use std::io;
 use std::io::Write;
-use std::net::{Ipv4Addr, TcpListener};
-use web::{ServeFault, Served, serve_one};
-
-/// A book, and the port on which requests to it come.
-struct BookServer<S: Alter> {
-    listener: TcpListener,
-    book: Book<S>,
-}
-
-impl<S: Alter> Server for BookServer<S> {
-    ghost use Rattle.rosterbook.specs.Serving.{has_failed, ServesBook};
-
-    ghost serves = { λ old new outcome. ServesBook S.Store old.book new.book outcome };
-
-    ghost fails = { λ server. has_failed server.book };
-
-    fn serve_one(&mut self, alloc: Global) -> Result<Served, ServeFault> {
-        serve_one(alloc, &self.listener, &mut self.book)
-    }
-
-    fn has_failed(&self) -> bool {
-        self.book.has_failed()
-    }
-}
-
-impl<D: Disk + Drop> BookServer<FileStore<D>> {
-    /// Frees the port, and closes the book.
-    fn close(self) -> FilesLeft<D>
-        ensures disk { IsCleanLeft result → IsClean over_files self.book }
-        ensures crash { IsCleanLeft result → LeavesByCrash self.book result }
-    {
-        let BookServer { listener, book } = self;
-        drop(listener);
-        book.close()
-    }
-}
+use web::Room;
 
 /// Answers `rosterbook serve`: opens the book, binds the port and prints it, then serves connections, and closes the book.
 /// That the line of a failed connection can't be written (92) stops the program only once all are served.
@@ -77,29 +40,30 @@ pub(crate) fn answer_serve<S: Start, O: Write, E: Write>(
         → IsErr result.done × (out.new ≡ out.old) × (err.new ≡ err.old) }
     ensures refused { IsRefusedAs result.left (image_at S.Start) result.refused result.done }
 {
-    let book = match Book::open_from(rt, file, start) {
+    let mut book = match Book::open_from(rt, file, start) {
         Ok(book) => book,
         Err(refused) => return Ended::of_refusal(refused),
     };
-    let Ok(listener) = TcpListener::bind(rt, (Ipv4Addr::LOCALHOST, port)) else {
+    let Ok(mut room) = Room::open(rt, rt.alloc(), port, connections) else {
         return Ended {
             done: Err(Stop::Network),
             left: Some(book.close()),
             refused: None,
         };
     };
-    let mut server = BookServer { listener, book };
     if let Err(error) = tell_port(out, port) {
         return Ended {
             done: Err(Stop::from(error)),
-            left: Some(server.close()),
+            left: Some(book.close()),
             refused: None,
         };
     }
-    let ending = serve_all(rt.alloc(), &mut server, connections, err);
+    let ending = serve_all(rt.alloc(), rt, &mut room, &mut book, connections, err);
+    // (the port is free before the book is closed)
+    drop(room);
     Ended {
         done: status_of(ending),
-        left: Some(server.close()),
+        left: Some(book.close()),
         refused: None,
     }
 }

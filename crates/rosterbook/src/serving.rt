@@ -1,33 +1,17 @@
-//! Connections that are served one after the other. The definition is `HasEnded` (`specs/Serving.antt`).
+//! The connections of a server, until all are over. The definition is `HasEnded` (`specs/Serving.antt`).
 //! A server and its clients: `tests/serve.py`. Wrong bodies: `must-fail-more/`.
 ghost use Rattle.std.specs.Prelude.{◌≡◌, IfOk, true};
 ghost use Rattle.std.specs.Io.KnownBytes.{Appends};
+ghost use Rattle.waiting.specs.Rooms.{connections_to_come, requests_to_come};
 ghost use Rattle.rosterbook.specs.Serving as spec;
 
 use crate::lines::refuse;
+use book::Book;
+use sqlite::Alter;
 use std::alloc::Global;
 use std::io::Write;
-use web::{ServeFault, Served};
-
-/// What serves connections, and stands on a store that may fail.
-pub(crate) trait Server {
-    ghost use Rattle.std.specs.Prelude.{◌≡◌, Bool};
-    ghost use Rattle.rosterbook.specs.Serving.{Outcome};
-
-    // it was so before, and so after it served a connection, of which this came
-    ghost serves: { Self → Self → Outcome → Type 0 };
-
-    // whether its store has failed
-    ghost fails: { Self → Bool };
-
-    /// Serves one connection.
-    fn serve_one(&mut self, alloc: Global) -> Result<Served, ServeFault>
-        ensures { serves self.old self.new result };
-
-    /// Returns whether its store has failed.
-    fn has_failed(&self) -> bool
-        ensures { result ≡ fails self.now };
-}
+use std::time::Clock;
+use web::{Room, ServeFault, Served, serve_one};
 
 /// How serving ended.
 #[derive(Clone, Copy)]
@@ -38,27 +22,30 @@ pub(crate) struct Ending {
     pub(crate) told: bool,
 }
 
-/// Serves this many connections one after the other, or fewer where the store fails at one. A line is written for each
-/// connection that failed, and for no other.
-pub(crate) fn serve_all<V: Server, E: Write>(
+/// Serves this many connections, or fewer where the book's store fails. A line is written for each connection that failed, and for no
+/// other.
+pub(crate) fn serve_all<C: Clock, S: Alter, E: Write>(
     alloc: Global,
-    server: &mut V,
+    clock: &C,
+    room: &mut Room,
+    book: &mut Book<S>,
     connections: u32,
     err: &mut E,
 ) -> Ending
-    ensures { spec.HasEnded V.serves V.fails connections server.old server.new (E.contents err.old)
+    requires requests { requests_to_come room.old ≡ connections }
+    requires connections { connections_to_come room.old ≡ connections }
+    ensures { spec.HasEnded S.Store connections book.old book.new (E.contents err.old)
         (E.contents err.new) result.told result.failed }
 {
     let mut told = true;
     for _connection in 0..connections {
-        let outcome = server.serve_one(alloc);
-        told &= tell_outcome(outcome, err);
-        if server.has_failed() {
+        let Some(outcome) = serve_one(alloc, clock, room, book) else {
             return Ending { failed: true, told };
-        }
+        };
+        told &= tell_outcome(outcome, err);
     }
     Ending {
-        failed: false,
+        failed: book.has_failed(),
         told,
     }
 }

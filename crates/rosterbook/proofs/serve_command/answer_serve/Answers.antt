@@ -2,9 +2,8 @@ use Rattle.std.proofs.Common.{inl, inr, refl}
 use Rattle.std.proofs.lemmas.Result.{IfErr-weaker, IfOk-weaker}
 use Rattle.sqlite.specs.Files.{over_files}
 use Rattle.book.proofs.CallLemmas.{no_calls}
-use Rattle.rosterbook.specs.Serving.{ServesBook, has_failed}
 use Rattle.rosterbook.proofs.ByFiles.{refused_as, session}
-use Rattle.rosterbook.proofs.ServedInTurn.{calls_of_ended, ended_as, ended_of}
+use Rattle.rosterbook.proofs.ServedInTurn.{calls_of_ended, ended_as}
 use Rattle.rosterbook.proofs.serve_command.answer_serve.Goals as goal
 
 -- (the book isn't opened)
@@ -36,12 +35,10 @@ returns-in-Err-tell_port-clause-stopped g c =
 pub returns-clause-served : goal.returns-clause-served
 returns-clause-served g c =
     let book = c.in-Ok.book in
-    let last = c.serve_all-ending.new.server.book in
-    let ended = ended_of _ _ (ServesBook over_files) has_failed (λ server. server.book) (λ old new outcome it. it) (λ server. refl) c.args.connections _ _ _ _
-    c.serve_all-ending.result.told c.serve_all-ending.result.failed c.serve_all-ending.ensures in
-    let after = calls_of_ended over_files c.args.connections book last _ _ c.serve_all-ending.result.told c.serve_all-ending.result.failed ended in
-    let told = ended_as (ServesBook over_files) has_failed c.args.port c.args.connections book last _ _ _ _ c.serve_all-ending.result.told c.serve_all-ending.result.failed
-    c.status_of.result c.status_of.ensures c.in_default-tell_port.ensures ended in
+    let last = c.serve_all-ending.new.book in
+    let after = calls_of_ended over_files c.args.connections book last _ _ c.serve_all-ending.result.told c.serve_all-ending.result.failed c.serve_all-ending.ensures in
+    let told = ended_as over_files c.args.port c.args.connections book last _ _ _ _ c.serve_all-ending.result.told c.serve_all-ending.result.failed
+    c.status_of.result c.status_of.ensures c.in_default-tell_port.ensures c.serve_all-ending.ensures in
     IfOk-weaker c.status_of.result _ _ (λ status it. (
       book,
       last,
@@ -52,12 +49,10 @@ returns-clause-served g c =
 pub returns-clause-stopped : goal.returns-clause-stopped
 returns-clause-stopped g c =
     let book = c.in-Ok.book in
-    let last = c.serve_all-ending.new.server.book in
-    let ended = ended_of _ _ (ServesBook over_files) has_failed (λ server. server.book) (λ old new outcome it. it) (λ server. refl) c.args.connections _ _ _ _
-    c.serve_all-ending.result.told c.serve_all-ending.result.failed c.serve_all-ending.ensures in
-    let after = calls_of_ended over_files c.args.connections book last _ _ c.serve_all-ending.result.told c.serve_all-ending.result.failed ended in
-    let told = ended_as (ServesBook over_files) has_failed c.args.port c.args.connections book last _ _ _ _ c.serve_all-ending.result.told c.serve_all-ending.result.failed
-    c.status_of.result c.status_of.ensures c.in_default-tell_port.ensures ended in
+    let last = c.serve_all-ending.new.book in
+    let after = calls_of_ended over_files c.args.connections book last _ _ c.serve_all-ending.result.told c.serve_all-ending.result.failed c.serve_all-ending.ensures in
+    let told = ended_as over_files c.args.port c.args.connections book last _ _ _ _ c.serve_all-ending.result.told c.serve_all-ending.result.failed
+    c.status_of.result c.status_of.ensures c.in_default-tell_port.ensures c.serve_all-ending.ensures in
     IfErr-weaker c.status_of.result _ _ (λ stop it. (
       book,
       last,
