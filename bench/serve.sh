@@ -2,15 +2,19 @@
 # Times requests of HTTP, on an empty book and on one of 10,000 pairings and 50,000 requests (long_book.sql): each is a connection of
 # its own to a server of that book, one after the other. Beside it the same is asked of a copy of the book without HTTP: parts of a
 # schedule in one run of `import`, and a report in one of `roster`, less what it takes to open the book. A path that names nothing is
-# answered without the book, and so takes what HTTP costs.
+# answered without the book, and so takes what HTTP costs. In the end stands what a request takes of a processor, and what memory open
+# connections take (costs.py), beside another program, as that of before a change:
+#
+#     bench/serve.sh [PORT [OTHER]]
 set -eu
 top=$(cd "$(dirname "$(readlink -f "${BASH_SOURCE[0]}")")/.." && pwd)
 "$top/rosterbook" --version >/dev/null
 room=$(mktemp -d)
 server=
 trap '[ -z "$server" ] || kill "$server"; rm -rf "$room"' EXIT
-cd "$room"
 port=${1:-8117}
+other=${2:+$(readlink -f "$2")}
+cd "$room"
 plan='{"number":80000%d,"do":"add-pairing","pairing":"Q%d","periods":[{"report":"2025-06-10T11:00Z","release":"2025-06-10T20:00Z","segments":[{"flight":"RB1","from":"BOS","out":"2025-06-10T12:00Z","to":"IAD","in":"2025-06-10T19:30Z"}]}]}'
 
 # schedule COUNT: the same pairings, with other ids.
@@ -99,3 +103,4 @@ sqlite3 long.db <"$top/bench/long_book.sql"
 sqlite3 long.db 'PRAGMA wal_checkpoint(TRUNCATE)' >/dev/null
 echo "the long book"
 measured long.db M1000000 100
+python3 "$top/bench/costs.py" "$port" "$top/crates/rosterbook_main/out/rosterbook_main" ${other:+"$other"}

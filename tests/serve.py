@@ -14,6 +14,7 @@ import errno
 import http.client
 import os
 import resource
+import select
 import shlex
 import shutil
 import signal
@@ -23,9 +24,11 @@ import subprocess
 import sys
 import tempfile
 import time
-from contextlib import closing
-from dataclasses import dataclass
+from concurrent.futures import Future, ThreadPoolExecutor
+from contextlib import ExitStack, closing
+from dataclasses import dataclass, field
 from pathlib import Path
+from statistics import median
 
 from exchanges import (
     ACCEPTED, ANSWERS, CANCEL, CONTINUE, CUT, HEADER, HIRE, HIRED, HOUR, JUNE, LONGEST, NO_CREW, NO_GROUND, NO_PAIRING,
@@ -49,6 +52,7 @@ class Desk:
     failed: int = 0
     cuts: int = 0
     name: str = ""
+    waits: dict[str, Future] = field(default_factory=dict)  # what is found meanwhile
 
     def expect(self, what, got, wanted):
         self.passed += got == wanted
@@ -89,6 +93,7 @@ def try_answers(desk):
     book = desk.book()
     desk.expect_served(book, [(given, answer_of(short)) for given, short in ANSWERS])
     heads = [(get(path, "HEAD"), error(404, method="HEAD")) for path in ("/nothing", "/imports/0")]
+    heads += [(wire("HEAD /exceedances HTTP/1.1|Host: evil.com||"), error(403, method="HEAD"))]
     methods = [(get(path, method), error(405, allow, method)) for path, method, allow in OTHER_METHODS]
     desk.expect_served(book, heads + methods)
     desk.expect("what is kept", book.requests(), [])
@@ -172,6 +177,7 @@ def try_one_exchange(desk):
     """Of two requests on a connection the second is neither done nor answered."""
     desk.expect_served(desk.book(), [
         (HIRE + request_of("2 hire C2 captain: Bo Lind"), response(200, ACCEPTED)),
+        (get("/crew/C1") + b"x" * 300_000, response(200, HIRED)),
         (get("/crew/C1") + get("/exceedances"), response(200, HIRED)),
         (get("/crew/C2"), response(*NO_CREW)),
     ])  # fmt: skip
@@ -301,22 +307,14 @@ MISBEHAVING = {
 }
 
 
-def told_beside(server, misbehave):
-    """What a client gets that keeps the server waiting while another one misbehaves and is gone."""
-    with server.connect() as client:
-        client.sendall(b"GET /exceedances HTTP/1.1\r\n")
-        misbehave(server.connect())
-        client.sendall(b"Host: x\r\n\r\n")
-        return receive(client)
-
-
 def try_misbehaving(desk):
-    """The next client is served, and no table has changed."""
+    """The next client is served, and no table has changed. The server is held while a client misbehaves, which is gone when it goes on."""
     book = desk.book()
     before = book.tables()
     for misbehave, lines in MISBEHAVING.items():
-        with serving(book, 3) as server:
-            desk.expect(f"before {misbehave.__name__}", told_beside(server, misbehave), response(*NONE_EXCEEDED))
+        with serving(book, 2) as server:
+            with server.held():
+                misbehave(server.connect())
             desk.expect(f"after {misbehave.__name__}", server.exchange(get("/crew/C9")), response(*NO_CREW))
             ended = server.end()
             desk.expect(f"the end after {misbehave.__name__}", ended, server.served(ended.err if ended.err in lines else lines))
@@ -326,13 +324,11 @@ def try_misbehaving(desk):
 def try_lost_answer(desk):
     """A command whose client is gone before its answer is kept, and is answered so when it is asked again."""
     book = desk.book()
-
-    def misbehave(client):
-        client.sendall(HIRE)
-        reset(client)
-
-    with serving(book, 5) as server:
-        desk.expect("before it", told_beside(server, misbehave), response(*NONE_EXCEEDED))
+    with serving(book, 4) as server:
+        with server.held():
+            client = server.connect()
+            client.sendall(HIRE)
+            reset(client)
         desk.expect("what is there", server.exchange(get("/crew/C1")), response(200, HIRED))
         desk.expect("it again", server.exchange(HIRE), response(200, ACCEPTED))
         other = request_of("1 hire C2 captain: Bo Lind")
@@ -342,17 +338,26 @@ def try_lost_answer(desk):
 
 
 def try_many_at_once(desk):
-    """Fifty clients that all ask before one of them reads."""
+    """Two hundred clients that all ask before one of them reads, three times as many as the server has places."""
     book = desk.book()
-    with serving(book, 50) as server:
-        clients = [server.connect() for _ in range(50)]
-        for number, client in enumerate(clients, 1):
-            client.sendall(request_of(f"{number} hire C{number} captain: Ada Ray"))
-        for number, client in enumerate(clients, 1):
-            desk.expect(f"client {number}", receive(client), response(200, ACCEPTED))
-            client.close()
+    with serving(book, 200) as server, ExitStack() as clients:
+        asked = []
+        for number in range(1, 201):
+            asked.append(clients.enter_context(server.connect()))
+            asked[-1].sendall(request_of(f"{number} hire C{number} captain: Ada Ray"))
+        wrong = [number for number, client in enumerate(asked, 1) if received(client) != response(200, ACCEPTED)]
+        desk.expect("clients with another answer", wrong, [])
+        clients.close()
         desk.expect("the end", server.end(), server.served())
-    desk.expect("the members", book.rows("SELECT count(*) FROM crew"), [(50,)])
+    desk.expect("the members", book.rows("SELECT count(*) FROM crew"), [(200,)])
+
+
+def received(client):
+    """All that a client gets up to the end, or why it gets no more."""
+    try:
+        return receive(client)
+    except OSError as fault:
+        return repr(fault)
 
 
 LIFE = (
@@ -398,6 +403,255 @@ def takes_turn(server, turn):
         return True
     given, short = ANSWERS[turn % len(ANSWERS)]
     return server.exchange(given) == answer_of(short)
+
+
+# ---- Clients that take their time.
+
+
+SOON = 0.05  # seconds within which a request is answered, however many clients take their time beside it
+# The first bytes of a browser that tries TLS.
+CLIENT_HELLO = bytes.fromhex("16030100c8010000c40303") + bytes(range(32, 64)) + b"\0\0\x02\x13\x01\x01\0\0\x99" + b"x" * 153
+
+
+def times_beside(server, count, given=get("/crew/C9"), wanted=response(*NO_CREW)):
+    """The seconds that this many requests take, one after the other, or fewer where one gets another answer."""
+    times = []
+    for _ in range(count):
+        begin = time.monotonic()
+        if server.exchange(given, patience=5) != wanted:
+            break
+        times.append(time.monotonic() - begin)
+    return times
+
+
+def are_soon(times, count):
+    """Whether this many requests were answered, half of them at once, and each before long. (The machine may have other work.)"""
+    return len(times) == count > 0 and median(times) < SOON and max(times) < 2
+
+
+def try_tls(desk):
+    """Bytes that can't become a head are answered at once, though the client waits for more than that."""
+    with serving(desk.book(), 2) as server:
+        for given in (CLIENT_HELLO, b"SSH-2.0-OpenSSH_9.2\r\n"):
+            begin = time.monotonic()
+            desk.expect(given, told_and_open(server, given), error(400))
+            desk.expect(f"{given}: at once", time.monotonic() - begin < 5, True)
+        desk.expect("the end", server.end(), server.served())
+
+
+def told_and_open(server, given):
+    """What a client gets that sends no more than this, and waits."""
+    try:
+        with server.connect(patience=5) as client:
+            client.sendall(given)
+            return receive(client)
+    except OSError as fault:
+        return repr(fault)
+
+
+def try_heads_alone(desk):
+    """Who is refused by the head alone is answered before the body comes, and isn't asked to go on."""
+    rows = [
+        ("POST /nothing HTTP/1.1|Host: x|Content-Length: 47||", error(404)),
+        ("POST /crew/C1 HTTP/1.1|Host: x|Content-Length: 47||", error(405, "GET, HEAD")),
+        ("POST /requests HTTP/1.1|Host: x||", error(411)),
+        (f"POST /requests HTTP/1.1|Host: x|Content-Length: {LONGEST + 1}||", error(413)),
+        ("POST /requests HTTP/1.1|Host: x|Transfer-Encoding: chunked||", error(501)),
+        ("POST /requests HTTP/1.1|Host: x|Origin: null|Content-Length: 47||", error(403)),
+        ("POST /requests HTTP/1.1|Content-Length: 47||", error(400)),
+    ]
+    rows += [(head.replace("|Content-Length", "|Expect: 100-continue|Content-Length"), wanted) for head, wanted in rows]
+    with serving(desk.book(), len(rows)) as server:
+        for head, wanted in rows:
+            desk.expect(head, told_and_open(server, wire(head)), wanted)
+        desk.expect("the end", server.end(), server.served())
+
+
+def try_farewell(desk):
+    """A client that has its response and doesn't close holds up nobody."""
+    with serving(desk.book()) as server, ExitStack() as clients:
+        times = []
+        for _ in range(9):
+            client = clients.enter_context(server.connect())
+            client.sendall(get("/exceedances"))
+            desk.expect("an answer", received(client), response(*NONE_EXCEEDED))
+            times += times_beside(server, 1)
+        desk.expect(f"the next clients, after {times}", are_soon(times, 9), True)
+
+
+def begin_waits(desk, pool):
+    """Begins with clients that make a server wait, each kind beside requests to a server of its own, and all kinds at the same time."""
+    large = desk.book()
+    fill(large)
+    for wait in WAITS:
+        book = large.copy() if wait in (deaf, slow) else desk.book()
+        desk.waits[wait.__name__] = pool.submit(lambda wait=wait, book=book: list(wait(book)))
+
+
+def try_waits(desk):
+    """What was found of them."""
+    for name, found in desk.waits.items():
+        if found.exception():
+            desk.expect(f"{name}: what ends it", repr(found.exception()), None)
+            continue
+        for what, got, wanted in found.result():
+            desk.expect(f"{name}: {what}", got, wanted)
+
+
+def fill(book):
+    """Writes 60,000 members into a book: a report of five megabytes. The system keeps three for a client that has little room."""
+    with closing(sqlite3.connect(book.file)) as tables:
+        members = [(f"C{number}", "x" * 60) for number in range(100_000, 160_000)]
+        tables.executemany("INSERT INTO crew (id, seat, name) VALUES (?, 0, ?)", members)
+        tables.execute("INSERT INTO crew_base (crew, base) SELECT id, 'HOME' FROM crew")
+        tables.commit()
+
+
+ALL_MEMBERS = "MEMBERS 60000\n" + "".join(f"C{number} captain HOME {'x' * 60}\n" for number in range(100_000, 160_000))
+LITTLE_ROOM = 4_096  # bytes
+
+
+def ended(client):
+    """Waits until the server has ended a connection that it doesn't answer; whatever it writes instead."""
+    try:
+        return receive(client)
+    except ConnectionError:
+        return b""
+
+
+def silent(book):
+    """Fifty connections over which nothing comes: they hold up nobody, and end after thirty seconds, as connections that cost no line."""
+    with serving(book, 70) as server, ExitStack() as clients:
+        begin = time.monotonic()
+        quiet = [clients.enter_context(server.connect(patience=60)) for _ in range(50)]
+        times = times_beside(server, 20)
+        yield f"requests beside them, after {times}", are_soon(times, 20), True
+        if len(times) == 20:
+            yield "what they get", [ended(client) for client in quiet], [b""] * 50
+            yield "thirty seconds", 25 < time.monotonic() - begin < 45, True
+            yield "the end", server.end(), server.served()
+
+
+def unfinished(book):
+    """Of N connections each one counts, however it ends: those that failed cost a line."""
+    with serving(book, 10) as server, ExitStack() as clients:
+        begin = time.monotonic()
+        nothing, half, half_a_body, reset_one, closed = (server.connect(patience=60) for _ in range(5))
+        for client in (nothing, half, half_a_body):
+            clients.enter_context(client)
+        half.sendall(HIRE[:20])
+        half_a_body.sendall(HIRE[:-1])
+        reset(reset_one)
+        closed.close()
+        times = times_beside(server, 5)
+        yield f"requests beside them, after {times}", are_soon(times, 5), True
+        if len(times) == 5:
+            yield "what half a request gets", ended(half), b""
+            yield "what half a body gets", ended(half_a_body), b""
+            yield "what a silent one gets", ended(nothing), b""
+            yield "thirty seconds", 25 < time.monotonic() - begin < 45, True
+            yield "the end", server.end(), server.served(FAILED * 3)
+    yield "what is kept", book.requests(), []
+
+
+def drips(book):
+    """Three clients of which a byte comes each 0.2 seconds: they have thirty seconds from the beginning, and not from each byte."""
+    with serving(book) as server, ExitStack() as clients:
+        begin = time.monotonic()
+        open_ones = {clients.enter_context(server.connect(patience=5)) for _ in range(3)}
+        ends, times = [], []
+        for byte in get("/exceedances")[:-4] + b"\r\nA: " + b"a" * 200:
+            for client in list(open_ones):
+                if has_ended(client, bytes([byte])):
+                    open_ones.remove(client)
+                    ends.append(time.monotonic() - begin)
+            if not open_ones:
+                break
+            times += times_beside(server, 1)
+            select.select(open_ones, [], [], 0.2)
+            if len(times) < 2 and time.monotonic() - begin > 10:
+                break
+        yield f"requests beside them, after {sorted(times)[-3:]}", are_soon(times, len(times)) and len(times) > 50, True
+        yield "when they end", [25 < end < 40 for end in ends], [True] * 3
+        yield "a request after them", server.exchange(get("/crew/C9"), patience=5), response(*NO_CREW)
+        yield "the lines", server.error_lines(), FAILED * 3
+
+
+def has_ended(client, more):
+    """Whether a connection has ended; if not, these bytes are sent over it."""
+    try:
+        if select.select([client], [], [], 0)[0]:
+            return True
+        client.sendall(more)
+    except OSError:
+        return True
+    return False
+
+
+def deaf(book):
+    """Three clients that read nothing of a large response: it is given up once nothing more of it has gone for thirty seconds."""
+    with serving(book) as server, ExitStack() as clients:
+        begin = time.monotonic()
+        unread = [clients.enter_context(server.connect(patience=60, room=LITTLE_ROOM)) for _ in range(3)]
+        for client in unread:
+            client.sendall(get("/reports/members"))
+        has_begun = select.select(unread, [], [], 0)[0]
+        while len(has_begun) < 3 and time.monotonic() - begin < 40:
+            time.sleep(0.01)  # (one command or report is answered after the other)
+            has_begun = select.select(unread, [], [], 0)[0]
+        times = times_beside(server, 20)
+        yield f"requests beside them, after {times}", are_soon(times, 20), True
+        if len(times) == 20:
+            # (it may take more than once thirty seconds, since the system may take a little more whenever they are up)
+            while server.error_lines() != FAILED * 3 and time.monotonic() - begin < 100:
+                time.sleep(0.1)
+            yield "the lines", server.error_lines(), FAILED * 3
+            yield "thirty seconds", time.monotonic() - begin > 25, True
+            yield "a request after them", server.exchange(get("/crew/C9"), patience=5), response(*NO_CREW)
+            yield "how many got all of it", sum(len(ended(client)) >= len(ALL_MEMBERS) for client in unread), 0
+
+
+def slow(book):
+    """A client that reads so little of a large response that it isn't gone after thirty seconds gets all of it."""
+    with serving(book, 1) as server, server.connect(room=LITTLE_ROOM, patience=40) as client:
+        client.sendall(get("/reports/members"))
+        got = receive(client, 10_000)
+        begin = time.monotonic()
+        while time.monotonic() - begin < 32:
+            got += receive(client, 10_000)
+            time.sleep(0.25)
+        got += receive(client)
+        yield "what it gets", got == response(200, ALL_MEMBERS), True
+        yield "the end", server.end(), server.served()
+
+
+def full(book):
+    """Seventy connections over which nothing comes, more than the server has places: whoever comes next waits for about a second."""
+    with serving(book, 76) as server, ExitStack() as clients:
+        for _ in range(70):
+            clients.enter_context(server.connect())
+        begin = time.monotonic()
+        yield "the next client", server.exchange(get("/crew/C9"), patience=5), response(*NO_CREW)
+        yield "about a second", time.monotonic() - begin < 4, True
+        times = times_beside(server, 5)
+        yield f"those after it, after {times}", are_soon(times, 5), True
+        clients.close()
+        yield "the end", server.end(), server.served()
+
+
+def refused_store(book):
+    """Where the store fails, a server ends that has open connections over which nothing or half a request came."""
+    with serving(book, **on_a_full_disk(book)) as server, server.connect(), server.connect() as client:
+        client.sendall(HIRE[:20])
+        answer, count = response(200, ACCEPTED), 0
+        while answer == response(200, ACCEPTED) and count < 200:
+            count += 1
+            answer = server.exchange(request_of(f"{count} hire C{count} captain: Ada Ray"), patience=5)
+        yield "the last answer", answer, response(503, STORE)
+        yield "the end", server.end(), Ran(3, f"listening {server.port}\n", "refused 90 Store\n")
+
+
+WAITS = (silent, unfinished, drips, deaf, slow, full, refused_store)
 
 
 # ---- How a server begins and ends.
@@ -468,8 +722,8 @@ def try_full_output(desk):
 
 def try_full_errors(desk):
     """A line of a failed connection that can't be written doesn't end a server, but it ends with status 3 for it."""
-    with open("/dev/full", "w") as full, serving(desk.book(), 3, stderr=full) as server:
-        desk.expect("before", told_beside(server, resets_within_the_head), response(*NONE_EXCEEDED))
+    with open("/dev/full", "w") as full, serving(desk.book(), 2, stderr=full) as server:
+        resets_within_the_head(server.connect())
         desk.expect("after", server.exchange(get("/crew/C9")), response(*NO_CREW))
         desk.expect("the end", server.end(), Ran(3, f"listening {server.port}\n", ""))
 
@@ -547,19 +801,6 @@ def try_full_disk_in_an_import(desk):
     desk.expect("the parts that are kept", kept, list(range(1, len(kept) + 1)))
     desk.expect("that some are, and not all", 0 < len(kept) < 100, True)
     desk.expect_served(book, [(post("/imports/5", plans), response(200, parts(*[ACCEPTED] * 100)))])
-
-
-def try_silence(desk):
-    """A client that sends nothing more for thirty seconds is given up, and the next is served."""
-    with serving(desk.book(), 2) as server, server.connect(patience=60) as client:
-        client.sendall(b"GET /exceedances HTTP/1.1\r\n")
-        begin = time.monotonic()
-        with server.connect(patience=60) as other:
-            other.sendall(get("/exceedances"))
-            desk.expect("the next client", receive(other), response(*NONE_EXCEEDED))
-        desk.expect("thirty seconds", 25 < time.monotonic() - begin < 45, True)
-        desk.expect("the silent client", receive(client), b"")
-        desk.expect("the end", server.end(), server.served(FAILED))
 
 
 def try_memory(desk):
@@ -698,9 +939,9 @@ def try_back_up(desk):
 
 TRIED = (
     try_exchanges, try_answers, try_hour, try_pieces, try_cuts, try_one_exchange, try_expectation, try_large_bodies, try_curl,
-    try_misbehaving, try_lost_answer, try_many_at_once, try_life, try_refused_books, try_words, try_other_addresses, try_full_output,
-    try_full_errors, try_no_more_files, try_kill, try_full_disk, try_full_disk_in_an_import, try_service, try_back_up, try_memory, try_log,
-    try_silence,
+    try_misbehaving, try_lost_answer, try_many_at_once, try_life, try_tls, try_heads_alone, try_farewell, try_refused_books, try_words,
+    try_other_addresses, try_full_output, try_full_errors, try_no_more_files, try_kill, try_full_disk, try_full_disk_in_an_import,
+    try_service, try_back_up, try_memory, try_log, try_waits,
 )  # fmt: skip
 
 
@@ -711,8 +952,10 @@ def main(names):
             sys.exit(f"tests/serve.py: there is no case {name}")
     if not build():
         return 3
-    with tempfile.TemporaryDirectory(prefix="serve-") as room:
+    with tempfile.TemporaryDirectory(prefix="serve-") as room, ThreadPoolExecutor(len(WAITS)) as pool:
         desk = Desk(Path(room), Book.made(room))
+        if not names or "waits" in names:
+            begin_waits(desk, pool)
         for desk.name in names or tried:
             try:
                 tried[desk.name](desk)

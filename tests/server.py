@@ -8,6 +8,7 @@
 
 import os
 import select
+import signal
 import socket
 import struct
 import subprocess
@@ -78,21 +79,40 @@ class Server:
             self.out += more
         return True
 
-    def connect(self, patience=PATIENCE, address=LOOPBACK):
-        client = socket.create_connection((address, self.port), timeout=patience)
+    def connect(self, patience=PATIENCE, address=LOOPBACK, room=None):
+        """A client, for which the system keeps about this many bytes that it hasn't read."""
+        client = socket.socket()
+        client.settimeout(patience)
         client.setsockopt(socket.IPPROTO_TCP, socket.TCP_NODELAY, 1)
+        if room is not None:
+            client.setsockopt(socket.SOL_SOCKET, socket.SO_RCVBUF, room)
+        try:
+            client.connect((address, self.port))
+        except OSError:
+            client.close()
+            raise
         return client
 
-    def exchange(self, given, is_cut=False, address=LOOPBACK):
+    def exchange(self, given, is_cut=False, address=LOOPBACK, patience=PATIENCE):
         """All that it writes to a client that sends these bytes, and then ends its side if they are cut; or why that one got nothing."""
         try:
-            with self.connect(address=address) as client:
+            with self.connect(patience, address) as client:
                 client.sendall(given)
                 if is_cut:
                     client.shutdown(socket.SHUT_WR)
                 return receive(client)
         except OSError as fault:
             return repr(fault)
+
+    @contextmanager
+    def held(self):
+        """It does nothing in the block: what clients do there has come when it goes on."""
+        self.process.send_signal(signal.SIGSTOP)
+        os.waitid(os.P_PID, self.process.pid, os.WSTOPPED | os.WEXITED | os.WNOWAIT)
+        try:
+            yield
+        finally:
+            self.process.send_signal(signal.SIGCONT)
 
     def error_lines(self):
         """What it has written to standard error."""

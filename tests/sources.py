@@ -26,7 +26,7 @@ class Item:
     path: str
     name: str
     text: str
-    opening: str = ""  # the line of the module with parameters that it stands in, or of the `impl`
+    opening: str = ""  # the line or lines of the module with parameters that it stands in, or the line of the `impl`
     clauses: str = ""  # of a call, what comes after its signature
 
     @cached_property
@@ -67,8 +67,9 @@ def definitions(path, text):
             opening = ""
         at = next((place for place, line in enumerate(lines) if line.startswith("module ")), None)
         if at is not None:
-            opening = lines[at]
-            lines = lines[at + 1 :]
+            end = next(place for place in range(at, len(lines)) if lines[place].endswith(" where")) + 1
+            opening = "\n".join(lines[at:end])
+            lines = lines[end:]
         code = [line for line in lines if not line.strip().startswith("--")]
         if code and not re.match(r"(pub )?(use|mod) ", code[0]):
             head = re.match(r"\s*(?:abbrev |unfoldable )?(?:pub )?(?:record |data )?([^\s:]+)", code[0])
