@@ -585,6 +585,7 @@ CHECKS = {
     "A member flies from 12:00": fullest_windows,
     "Of two new periods": least_left,
     "With the period of 541": exceeding,
+    "Of three connections one was silent": None,
     "Import 500 of P10": None,
     "The commit of a command": None,
     "A book is durably at the state in which": None,
