@@ -1,13 +1,13 @@
 #!/usr/bin/env python3
 """Draws the duties of members over a month: a row for each member, a bar for each duty.
 
-    chart.py roster.db C1 C2 F1 --zone EST5EDT,M3.2.0,M11.1.0 --output june.svg
+    chart.py roster.db C1 C2 F1 --output june.svg
     chart.py roster.db --output all.svg
-    chart.py http://127.0.0.1:8117 C1 --month 2025-07 --output july.png
+    chart.py http://127.0.0.1:8117 C1 --month 2025-07 --zone UTC0 --output july.png
 
-Without a CREW all members have a row. The days are those of local time by the rule of --zone, and UTC stands above; without it they are
-days of UTC. No report prints a zone: give the rule with which the book or the members' base was made. A red triangle marks a duty of which
-an exceedance is on record, and the lines below name the sections. The same book gives the same SVG.
+Without a CREW all members have a row. The days are those of local time at the base of the first member, or by the rule of --zone; UTC
+stands above. A red triangle marks a duty of which an exceedance is on record, and the lines below name the sections. The same book gives
+the same SVG.
 """
 
 import argparse
@@ -21,7 +21,7 @@ from datetime import date, datetime, timedelta, timezone
 
 sys.dont_write_bytecode = True  # so that nothing is left beside the scripts
 
-from reports import Ground, Outside, Period, add_source, needs, source_of, stop
+from reports import add_source, in_order, key, name, needs, source_of, span, standing, stop
 
 try:
     import matplotlib
@@ -84,25 +84,15 @@ LOOKS = {
 }
 
 
-def look_of(duty):
-    match duty:
-        case Period():
-            return LOOKS[duty.standing]
-        case Ground():
-            return LOOKS["ground"]
-        case Outside():
-            return LOOKS["outside"]
-
-
 def labels_of(duty):
     """What may stand on a bar, the longest first."""
-    match duty:
-        case Ground():
-            return f"{duty.ground} {duty.task}", duty.ground
-        case Outside():
-            return (duty.outside,)
-        case Period():
-            return duty.name, duty.pairing
+    match duty["kind"]:
+        case "ground":
+            return f"{duty['ground']} {duty['task']}", duty["ground"]
+        case "outside":
+            return (duty["outside"],)
+        case "pairing":
+            return name(duty), duty["pairing"]
 
 
 # ---- The month.
@@ -156,13 +146,14 @@ class Month:
 
     def span(self, duty):
         """The places between which a duty is in the month, or None."""
-        begin, end = max(duty.begin, self.begin), min(duty.end, self.end)
+        begin, end = span(duty)
+        begin, end = max(begin, self.begin), min(end, self.end)
         return (self.place(begin), self.place(end)) if begin < end else None
 
 
 def first_month(rosters):
     """The month in which the first duty begins."""
-    begins = [duty.begin for roster in rosters for duty in roster.duties]
+    begins = [span(duty)[0] for roster in rosters for duty in roster["duties"]]
     if not begins:
         stop("there is no duty; --month names a month without one")
     return min(begins).astimezone().date().replace(day=1)
@@ -188,7 +179,7 @@ def side_by_side(duties):
     """Each duty with its share of the height: which it is of how many of a run, where each begins before the end of one before."""
     runs = []
     for duty in duties:
-        if runs and duty.begin < max(before.end for before in runs[-1]):
+        if runs and duty["begin"] < max(before["end"] for before in runs[-1]):
             runs[-1].append(duty)
         else:
             runs.append([duty])
@@ -238,18 +229,18 @@ class Picture:
 
     def draw_duties(self, row, roster, exceeded):
         """The bars of a member, with marks on those whose names are among the exceeded."""
-        for duty, place, count in side_by_side([it for it in roster.duties if self.month.span(it)]):
+        for duty, place, count in side_by_side([it for it in in_order(roster["duties"]) if self.month.span(it)]):
             height = BAR / count
-            name = f"{roster.crew}.{duty.key}"
-            self.draw_bar(duty, row + ABOVE + place * height, height, name)
-            if duty.name in exceeded:
-                self.draw_mark(duty, row + ABOVE / 2, name)
+            group = f"{roster['crew']}.{key(duty)}"
+            self.draw_bar(duty, row + ABOVE + place * height, height, group)
+            if name(duty) in exceeded:
+                self.draw_mark(duty, row + ABOVE / 2, group)
 
-    def draw_bar(self, duty, top, height, name):
+    def draw_bar(self, duty, top, height, group):
         begin, end = self.month.span(duty)
-        look = look_of(duty)
+        look = LOOKS[standing(duty)]
         (bar,) = self.axes.barh(top, end - begin, height, begin, align="edge", zorder=3, **look.paint)
-        bar.set_gid(name)
+        bar.set_gid(group)
         self.axes.barh(top, end - begin, height, begin, align="edge", zorder=4, **OUTLINE)
         room = fitting(labels_of(duty), (end - begin) * self.inches_of_a_day, height * ROW)
         if room:
@@ -257,32 +248,33 @@ class Picture:
             middle = ((begin + end) / 2, top + height / 2)
             self.axes.text(*middle, label, fontsize=size, rotation=turned, ha="center", va="center", color=look.letters, zorder=5)
 
-    def draw_mark(self, duty, height, name):
+    def draw_mark(self, duty, height, group):
         begin, end = self.month.span(duty)
         (mark,) = self.axes.plot([(begin + end) / 2], [height], zorder=6, **MARK)
-        mark.set_gid(f"{name}.exceeds")
+        mark.set_gid(f"{group}.exceeds")
 
 
 def who(roster):
-    base = "" if roster.base == "HOME" else f", {roster.base}"
-    return "\n".join([roster.crew, *textwrap.wrap(roster.name, 24), f"{roster.seat}{base}"])
+    base = "" if roster["base"] == "HOME" else f", {roster['base']}"
+    return "\n".join([roster["crew"], *textwrap.wrap(roster["name"], 24), f"{roster['seat']}{base}"])
 
 
 def sections_of(exceedances, crew):
     """The sections of each duty of a member that has exceedances, by its name."""
     sections = {}
     for it in exceedances:
-        if it.crew == crew and it.section not in sections.setdefault(it.duty, []):
-            sections[it.duty].append(it.section)
+        if it["crew"] == crew and it["section"] not in sections.setdefault(name(it), []):
+            sections[name(it)].append(it["section"])
     return sections
 
 
 def lines_below(rosters, month, exceeded):
     """A line for each member with exceedances in the month."""
     for roster in rosters:
-        shown = [duty.name for duty in roster.duties if month.span(duty) and duty.name in exceeded[roster.crew]]
+        sections = exceeded[roster["crew"]]
+        shown = [name(duty) for duty in in_order(roster["duties"]) if month.span(duty) and name(duty) in sections]
         if shown:
-            yield f"{roster.crew} exceeds: " + "; ".join(f"{name} {', '.join(exceeded[roster.crew][name])}" for name in shown)
+            yield f"{roster['crew']} exceeds: " + "; ".join(f"{it} {', '.join(sections[it])}" for it in shown)
 
 
 def legend():
@@ -313,17 +305,16 @@ def write_around(figure, title, below):
 
 def page_of(rosters, exceedances, month, zone):
     """The figure of the members' month."""
-    exceeded = {roster.crew: sections_of(exceedances, roster.crew) for roster in rosters}
+    exceeded = {roster["crew"]: sections_of(exceedances, roster["crew"]) for roster in rosters}
     below = list(lines_below(rosters, month, exceeded))
     figure, axes = paper(len(rosters), len(below))
     picture = Picture(month, rosters, axes)
     picture.draw_members()
     picture.draw_days()
     for row, roster in enumerate(rosters):
-        picture.draw_duties(row, roster, exceeded[roster.crew])
-    axes.set_xlabel(f"local time by {zone}" if zone else "UTC", fontsize=9)
-    if zone:
-        picture.draw_utc()
+        picture.draw_duties(row, roster, exceeded[roster["crew"]])
+    axes.set_xlabel(f"local time by {zone}", fontsize=9)
+    picture.draw_utc()
     write_around(figure, f"Duties in {month.first:%B %Y}", below)
     return figure
 
@@ -332,7 +323,10 @@ def page_of(rosters, exceedances, month, zone):
 
 
 def month_named(text):
-    month = datetime.strptime(text, "%Y-%m").date()
+    try:
+        month = datetime.strptime(text, "%Y-%m").date()
+    except ValueError:
+        raise argparse.ArgumentTypeError(f"{text} is no month, such as 2025-07") from None
     if not 1999 <= month.year <= 2100:
         raise argparse.ArgumentTypeError("a book's instants are those of 2000 to 2099")
     return month
@@ -356,7 +350,7 @@ def arguments():
     parser.add_argument("crew", metavar="CREW", nargs="*", help="the id of a member; without one, all members")
     parser.add_argument("--output", metavar="FILE", required=True, type=picture_named, help="the picture, FILE.svg or FILE.png")
     parser.add_argument("--month", metavar="YYYY-MM", type=month_named, help="without it, the month of the members' first duty")
-    parser.add_argument("--zone", metavar="ZONE", type=zone_named, help="the POSIX rule of the base, for local time; without it, UTC")
+    parser.add_argument("--zone", metavar="ZONE", type=zone_named, help="the POSIX rule of local time; without it, that of the first member's base")
     return parser.parse_args()
 
 
@@ -364,15 +358,16 @@ def main():
     asked = arguments()
     if not matplotlib:
         needs("matplotlib", "python3-matplotlib")
-    set_zone(asked.zone or "UTC0")
     source = source_of(asked)
-    rosters = [source.roster(crew) for crew in asked.crew or source.members()]
+    rosters = [source.roster(crew) for crew in asked.crew or [it["crew"] for it in source.members()["members"]]]
     if not rosters:
         stop("the book has no members")
+    zone = asked.zone or rosters[0]["zone"]
+    set_zone(zone)
     month = Month(asked.month or first_month(rosters))
     # (text stays text in an SVG, and a `$` in a name is no formula)
     matplotlib.rcParams.update({"svg.fonttype": "none", "svg.hashsalt": "rosterbook", "text.parse_math": False, "hatch.linewidth": 0.6})
-    figure = page_of(rosters, source.exceedances(), month, asked.zone)
+    figure = page_of(rosters, source.exceedances(), month, zone)
     try:
         figure.savefig(asked.output, dpi=110, metadata={"Date": None} if asked.output.endswith(".svg") else None)
     except OSError as fault:

@@ -14,7 +14,7 @@ import sys
 
 sys.dont_write_bytecode = True  # so that nothing is left beside the scripts
 
-from reports import Ground, Outside, Period, add_source, needs, source_of
+from reports import add_source, in_order, instant, key, name, needs, source_of, span, standing
 
 try:
     from icalendar import Calendar, Event, vDatetime
@@ -24,56 +24,64 @@ except ImportError:
 MAKER = "-//rosterbook//duty_calendar//EN"
 
 
-def route(segments):
+def route(duty):
     """The airports of a period in turn, as `BOS-IAD-BOS`."""
-    return "-".join([segments[0].origin, *(it.destination for it in segments)])
+    return "-".join([duty["segments"][0]["from"], *(it["to"] for it in duty["segments"])])
 
 
-def flights(segments):
-    """A line for each segment, with its block times."""
-    return [f"{it.flight} {it.origin} {it.block_out:%Y-%m-%d %H:%M}Z {it.destination} {it.block_in:%Y-%m-%d %H:%M}Z" for it in segments]
+def flights(duty):
+    """A line for each segment of a period, with its block times as flown, or else as planned."""
+    flown = duty["actual"] or duty
+    for planned, times in zip(duty["segments"], flown["segments"]):
+        block_out, block_in = instant(times["out"]), instant(times["in"])
+        yield f"{planned['flight']} {planned['from']} {block_out:%Y-%m-%d %H:%M}Z {planned['to']} {block_in:%Y-%m-%d %H:%M}Z"
 
 
-def summary(duty, pairings):
-    match duty:
-        case Period():
-            return f"{duty.name} {route(pairings[duty.pairing].segments[duty.number])}"
-        case Ground():
-            return f"{duty.name} {duty.task}"
-        case Outside():
-            return duty.name
+def summary(duty):
+    match duty["kind"]:
+        case "pairing":
+            return f"{name(duty)} {route(duty)}"
+        case "ground":
+            return f"{name(duty)} {duty['task']}"
+        case "outside":
+            return name(duty)
+
+
+def hours(minutes):
+    return f"{minutes // 60}:{minutes % 60:02}"
 
 
 def lengths(duty):
-    return f"flight duty period {duty.fdp}, flight time {duty.flight}"
+    return f"flight duty period {hours(duty['fdp'])}, flight time {hours(duty['flight'])}"
 
 
 def description(duty, pairings):
-    match duty:
-        case Period():
-            pairing = pairings[duty.pairing]
-            crew = [f"captain {pairing.captain}", f"first officer {pairing.first_officer}"]
-            lines = [f"{duty.standing}: {lengths(duty)}", *flights(pairing.segments[duty.number]), *crew]
-        case Ground():
+    match duty["kind"]:
+        case "pairing":
+            pairing = pairings[duty["pairing"]]
+            crew = [f"captain {pairing['captain'] or '-'}", f"first officer {pairing['first_officer'] or '-'}"]
+            lines = [f"{standing(duty)}: {lengths(duty)}", *flights(duty), *crew]
+        case "ground":
             lines = ["ground duty"]
-        case Outside():
+        case "outside":
             lines = [f"flown for another certificate holder: {lengths(duty)}"]
     return "\n".join(lines)
 
 
 def revision(duty):
     """An actual takes the place of the plan, also where a calendar looks which of two events is the later one."""
-    return 1 if isinstance(duty, Period) and duty.standing == "actual" else 0
+    return 1 if standing(duty) == "actual" else 0
 
 
 def event_of(crew, duty, pairings):
     event = Event()
-    event.add("uid", f"{crew}.{duty.key}@rosterbook")
+    event.add("uid", f"{crew}.{key(duty)}@rosterbook")
+    begin, end = span(duty)
     # No report says when a duty was last changed, so the stamp that the RFC requires is the duty's begin: the same for the same book.
-    for name, instant in (("dtstamp", duty.begin), ("dtstart", duty.begin), ("dtend", duty.end)):
-        event.add(name, vDatetime(instant))
+    for what, when in (("dtstamp", begin), ("dtstart", begin), ("dtend", end)):
+        event.add(what, vDatetime(when))
     event.add("sequence", revision(duty))
-    event.add("summary", summary(duty, pairings))
+    event.add("summary", summary(duty))
     event.add("description", description(duty, pairings))
     return event
 
@@ -83,9 +91,9 @@ def calendar_of(roster, pairings):
     calendar = Calendar()
     calendar.add("prodid", MAKER)
     calendar.add("version", "2.0")
-    calendar.add("x-wr-calname", f"{roster.crew} {roster.name}")
-    for duty in roster.duties:
-        calendar.add_component(event_of(roster.crew, duty, pairings))
+    calendar.add("x-wr-calname", f"{roster['crew']} {roster['name']}")
+    for duty in in_order(roster["duties"]):
+        calendar.add_component(event_of(roster["crew"], duty, pairings))
     return calendar
 
 
@@ -102,7 +110,7 @@ def main():
         needs("icalendar", "python3-icalendar")
     source = source_of(asked)
     roster = source.roster(asked.crew)
-    ids = {duty.pairing for duty in roster.duties if isinstance(duty, Period)}
+    ids = {duty["pairing"] for duty in roster["duties"] if duty["kind"] == "pairing"}
     pairings = {pairing: source.pairing(pairing) for pairing in sorted(ids)}
     sys.stdout.buffer.write(calendar_of(roster, pairings).to_ical())
 

@@ -2,17 +2,17 @@
 
     source = source_of(asked)           of a command line that `add_source` has read
     source.roster("C1")                 the member C1, and the duties of C1
-    source.pairing("B101")              the seats and the segments of B101
+    source.pairing("B101")              who flies B101, and its periods
     source.exceedances()                all exceedances
-    source.members()                    the ids of all members
+    source.members()                    the members, and the bases
 
-If the program or the server refuses a report, the script ends with status 1, and its line is on standard error. docs/FORMATS.md
-describes the lines, under Reports.
+Each is what the report's JSON is read as, by the members that docs/FORMATS.md has under Reports as JSON; below are the few things that
+more than one script makes of them. If the program or the server refuses a report, the script ends with status 1, and its line is on
+standard error.
 """
 
 import http.client
 import json
-import re
 import shutil
 import subprocess
 import sys
@@ -23,10 +23,9 @@ from dataclasses import dataclass
 from datetime import datetime, timezone
 from pathlib import Path
 
-INSTANT = "%Y-%m-%dT%H:%MZ"
 BESIDE = Path(__file__).resolve().parent.parent / "rosterbook"  # of a folder with the sources
 PATIENCE = 60  # seconds that a server is waited for
-PATHS = {"roster": "/crew/", "pairing": "/pairings/", "exceedances": "/exceedances", "members": "/reports/members"}  # of a server
+PATHS = {"roster": "crew/", "pairing": "pairings/", "exceedances": "exceedances", "members": "reports/members"}  # of a server
 
 
 def stop(why, status=1):
@@ -40,174 +39,45 @@ def needs(package, debian):
     stop(f"it needs the package {package} (Debian: {debian})", 2)
 
 
-# ---- The lines of reports.
-
-
-@dataclass(frozen=True)
-class Duty:
-    """What a line of a roster has of each duty."""
-
-    begin: datetime
-    end: datetime  # of a period its release
-
-
-@dataclass(frozen=True)
-class Period(Duty):
-    """A flight duty period of a pairing."""
-
-    pairing: str
-    number: int
-    standing: str  # `plan` or `actual`
-    fdp: str
-    flight: str
-
-    @property
-    def name(self):
-        """What an exceedance calls it."""
-        return f"{self.pairing}/{self.number}"
-
-    @property
-    def key(self):
-        """Its kind and its ids: no other duty of its member has them."""
-        return f"pairing.{self.pairing}.{self.number}"
-
-
-@dataclass(frozen=True)
-class Ground(Duty):
-    """A ground duty."""
-
-    ground: str
-    task: str
-
-    @property
-    def name(self):
-        return self.ground
-
-    @property
-    def key(self):
-        return f"ground.{self.ground}"
-
-
-@dataclass(frozen=True)
-class Outside(Duty):
-    """A flight duty period that the member flew for another certificate holder."""
-
-    outside: str
-    fdp: str
-    flight: str
-
-    @property
-    def name(self):
-        return f"outside {self.outside}"
-
-    @property
-    def key(self):
-        return f"outside.{self.outside}"
-
-
-@dataclass(frozen=True)
-class Roster:
-    """A member and the member's duties, in the order of the report."""
-
-    crew: str
-    seat: str
-    name: str
-    base: str
-    duties: list
-
-
-@dataclass(frozen=True)
-class Segment:
-    """A segment of a period."""
-
-    flight: str
-    origin: str
-    block_out: datetime
-    destination: str
-    block_in: datetime
-
-
-@dataclass(frozen=True)
-class Pairing:
-    """Who has the seats of a pairing, `-` for a free one, and the segments of each of its periods, by its number."""
-
-    captain: str
-    first_officer: str
-    segments: dict
-
-
-@dataclass(frozen=True)
-class Exceedance:
-    """A limit that a flown period of a member exceeded."""
-
-    crew: str
-    section: str
-    duty: str  # its name
-
-
-# ---- How they are read.
-
-MEMBER = re.compile(r"ROSTER (\S+) (captain|first officer) (.+)")
-BASE = re.compile(r"base (\S+)")
-DUTY = re.compile(r"(\S+) (\S+) (pairing|ground|outside) (.+)")
-PERIOD = re.compile(r"([^ /]+)/(\d+) (plan|actual) fdp (\S+) flight (\S+)")
-GROUND = re.compile(r"(\S+) (.+)")
-OUTSIDE = re.compile(r"(\S+) fdp (\S+) flight (\S+)")
-PERIOD_OF_PAIRING = re.compile(r"\d+ (plan|actual) report \S+ release \S+")
-SEGMENT = re.compile(r"(\d+)\.\d+ (\S+) (\S+) (\S+) (\S+) (\S+)")
-EXCEEDANCE = re.compile(r"\d+ (\S+) (\S+) ((?:outside )?\S+)")
-LISTED_MEMBER = re.compile(r"(\S+) (?:captain|first officer) \S+ .+")
+# ---- What is made of reports.
 
 
 def instant(text):
-    return datetime.strptime(text, INSTANT).replace(tzinfo=timezone.utc)
+    return datetime.strptime(text, "%Y-%m-%dT%H:%MZ").replace(tzinfo=timezone.utc)
 
 
-def fields(pattern, line):
-    """What the groups of a pattern match, which the whole line has to have."""
-    found = pattern.fullmatch(line)
-    if not found:
-        stop(f"this is no line of a report: {line}")
-    return found.groups()
+def in_order(duties):
+    """The duties in the order of time: instants sort as texts do."""
+    return sorted(duties, key=lambda duty: (duty["begin"], duty["end"]))
 
 
-def read_duty(line):
-    begin, end, kind, rest = fields(DUTY, line)
-    span = instant(begin), instant(end)
-    match kind:
+def span(duty):
+    """When a duty begins and ends; a period ends with its release."""
+    return instant(duty["begin"]), instant(duty["end"])
+
+
+def name(duty):
+    """What an exceedance calls a duty, or calls its duty."""
+    match duty["kind"]:
         case "pairing":
-            pairing, number, standing, fdp, flight = fields(PERIOD, rest)
-            return Period(*span, pairing, int(number), standing, fdp, flight)
+            return f"{duty['pairing']}/{duty['period']}"
         case "ground":
-            return Ground(*span, *fields(GROUND, rest))
+            return duty["ground"]
         case "outside":
-            return Outside(*span, *fields(OUTSIDE, rest))
+            return f"outside {duty['outside']}"
 
 
-def read_roster(lines):
-    crew, seat, name = fields(MEMBER, lines[0])
-    has_base = len(lines) > 1 and BASE.fullmatch(lines[1])
-    base = has_base[1] if has_base else "HOME"
-    return Roster(crew, seat, name, base, [read_duty(line) for line in lines[2 if has_base else 1 :]])
+def key(duty):
+    """The kind and the ids of a duty: no other duty of its member has them."""
+    number = [duty["period"]] if duty["kind"] == "pairing" else []
+    return ".".join(map(str, [duty["kind"], duty[duty["kind"]], *number]))
 
 
-def read_pairing(lines):
-    _, captain, first_officer, *rest = lines
-    segments = {}
-    for line in rest:
-        if not PERIOD_OF_PAIRING.fullmatch(line):
-            period, flight, origin, block_out, destination, block_in = fields(SEGMENT, line)
-            segment = Segment(flight, origin, instant(block_out), destination, instant(block_in))
-            segments.setdefault(int(period), []).append(segment)
-    return Pairing(captain.removeprefix("captain "), first_officer.removeprefix("first officer "), segments)
-
-
-def read_exceedances(lines):
-    return [Exceedance(*fields(EXCEEDANCE, line)) for line in lines[1:]]
-
-
-def read_members(lines):
-    return [fields(LISTED_MEMBER, line)[0] for line in lines[1:]]
+def standing(duty):
+    """How a duty stands: `plan`, `actual`, `ground` or `outside`."""
+    if duty["kind"] == "pairing":
+        return "actual" if duty["actual"] else "plan"
+    return duty["kind"]
 
 
 # ---- Where they come from.
@@ -217,20 +87,16 @@ class Source:
     """A book that is asked for its reports."""
 
     def roster(self, crew):
-        return read_roster(self.lines("roster", crew))
+        return json.loads(self.text("roster", crew))
 
     def pairing(self, pairing):
-        return read_pairing(self.lines("pairing", pairing))
+        return json.loads(self.text("pairing", pairing))
 
     def exceedances(self):
-        return read_exceedances(self.lines("exceedances"))
+        return json.loads(self.text("exceedances"))["exceedances"]
 
     def members(self):
-        return read_members(self.lines("members"))
-
-    def lines(self, report, *ids):
-        text = self.text(report, *ids).decode(errors="replace")
-        return text.removesuffix("\n").split("\n")  # (`splitlines` would also split a name at some characters that it may have)
+        return json.loads(self.text("members"))
 
 
 @dataclass(frozen=True)
@@ -243,7 +109,7 @@ class File(Source):
     def text(self, report, *ids):
         """What the program prints; it reports a refusal itself."""
         try:
-            ran = subprocess.run([self.program, report, "--", self.path, *ids], stdout=subprocess.PIPE)
+            ran = subprocess.run([self.program, report, "--json", "--", self.path, *ids], stdout=subprocess.PIPE)
         except OSError as fault:
             stop(f"{self.program}: {fault.strerror}; --program names the program of the roster book")
         if ran.returncode != 0:
@@ -259,7 +125,8 @@ class Server(Source):
 
     def text(self, report, *ids):
         """What the server answers; of a refusal its line is what the program would print."""
-        address = self.address.rstrip("/") + PATHS[report] + "".join(urllib.parse.quote(it, safe="") for it in ids)
+        path = PATHS[report] + "".join(urllib.parse.quote(it, safe="") for it in ids)
+        address = f"{self.address.rstrip('/')}/json/{path}"
         direct = urllib.request.build_opener(urllib.request.ProxyHandler({}))
         try:
             with direct.open(address, timeout=PATIENCE) as response:

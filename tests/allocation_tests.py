@@ -42,6 +42,7 @@ TESTS = {
         "put": {"91"},
         "canonical": {"91"},
         "report": {"91"},
+        "report_json": {"91"},
         "schedule": {"91"},
     },
     "book_tests": {

@@ -32,7 +32,7 @@ from pathlib import Path
 
 import tables
 from exchanges import ACCEPTED, MEMORY, STORE, body_of, check, get, refused, request_of, response
-from office import ZONE, Book, Ran, build, rosterbook, schedule
+from office import ZONE, Book, Ran, build, compact, rosterbook, schedule
 from refusing import Memory, folder, has_compiler
 from reports import carry_out
 from server import started
@@ -145,6 +145,106 @@ EXCEEDANCES 3
 12 F1 117.13(a) P1/1
 16 F1 117.25(e) outside X2
 """
+
+# ---- The same in JSON.
+
+
+def in_json(**value):
+    return f"{compact(value)}\n"
+
+
+def one_flight(report, release, out, into, **more):
+    """The times of a period with one segment, in which more may be said of the flight."""
+    return {"report": report, "release": release, "segments": [{"out": out, "in": into, **more}]}
+
+
+P1_PLAN = one_flight("2025-06-10T11:00Z", "2025-06-10T20:00Z", "2025-06-10T12:00Z", "2025-06-10T19:30Z", flight="RB1", **{"from": "BOS"}, to="IAD")
+P1_FLOWN = one_flight("2025-06-10T11:00Z", "2025-06-11T02:00Z", "2025-06-10T23:00Z", "2025-06-11T01:30Z")
+P1_PERIOD = {**P1_PLAN, "actual": P1_FLOWN, "period": 1, "fdp": 870, "flight": 150}
+P4_PLAN = one_flight("2025-06-17T11:00Z", "2025-06-17T20:00Z", "2025-06-17T12:00Z", "2025-06-17T19:30Z", flight="RB1", **{"from": "BOS"}, to="IAD")
+P4_PERIOD = {**P4_PLAN, "actual": None, "period": 1, "fdp": 510, "flight": 450}
+
+ROSTER_JSON = in_json(
+    crew="C1",
+    seat="captain",
+    name="Ada Ray",
+    base="HOME",
+    zone=ZONE,
+    duties=[
+        {"kind": "pairing", "pairing": "P1", "begin": "2025-06-10T11:00Z", "end": "2025-06-11T02:00Z", **P1_PERIOD},
+        {"kind": "pairing", "pairing": "P4", "begin": "2025-06-17T11:00Z", "end": "2025-06-17T20:00Z", **P4_PERIOD},
+        {"kind": "ground", "ground": "G1", "task": "Simulator", "begin": "2025-06-20T12:00Z", "end": "2025-06-20T13:00Z"},
+    ],
+)
+
+PAIRING_JSON = in_json(pairing="P1", captain="C1", first_officer="F1", periods=[P1_PERIOD])
+
+
+def near(section, minutes, limit, duty=None, begin=None, exceeds=False):
+    return {"section": section, "minutes": minutes, "limit": limit, "duty": duty, "from": begin, "exceeds": exceeds}
+
+
+WITH_P2_JSON = in_json(
+    crew="C1",
+    seat="captain",
+    name="Ada Ray",
+    pairing="P2",
+    limits=[
+        near("117.11(a)(1)", 120, 540, "P2/1"),
+        near("117.13(a)", 180, 840, "P2/1"),
+        near("117.23(b)(1)", 720, 6000, begin="2025-05-20T19:30Z"),
+        near("117.23(b)(2)", 720, 60000, begin="2024-06-18T00:00Z"),
+        near("117.23(c)(1)", 1050, 3600, begin="2025-06-04T14:00Z"),
+        near("117.23(c)(2)", 1560, 11400, begin="2025-05-20T19:30Z"),
+        near("117.25(b)", 8430, 1800, "P4/1"),
+        near("117.25(e)", 540, 600, "P2/1", exceeds=True),
+    ],
+)
+
+MEMBERS_JSON = in_json(
+    bases=[{"base": "DEN", "zone": "MST7MDT,M3.2.0,M11.1.0"}, {"base": "HOME", "zone": ZONE}],
+    members=[
+        {"crew": "C1", "seat": "captain", "base": "HOME", "name": "Ada Ray"},
+        {"crew": "C9", "seat": "captain", "base": "DEN", "name": "Lee Roy"},
+        {"crew": "F1", "seat": "first officer", "base": "HOME", "name": "Zoë Roy"},
+    ],
+)
+
+
+def listed(number, report, release, fdp, flight):
+    """A period that isn't flown, in the list of pairings."""
+    return {"period": number, "report": report, "release": release, "fdp": fdp, "flight": flight, "actual": None}
+
+
+OPEN_JSON = in_json(
+    pairings=[
+        {
+            "pairing": "P2",
+            "captain": None,
+            "first_officer": None,
+            "periods": [listed(1, "2025-06-11T11:00Z", "2025-06-11T14:30Z", 180, 120)],
+        },
+        {
+            "pairing": "P3",
+            "captain": None,
+            "first_officer": None,
+            "periods": [
+                listed(1, "2025-06-13T11:00Z", "2025-06-13T18:00Z", 360, 240),
+                listed(2, "2025-06-14T11:00Z", "2025-06-14T16:00Z", 240, 180),
+            ],
+        },
+    ],
+)
+
+EXCEEDANCES_JSON = in_json(
+    exceedances=[
+        {"number": "12", "part": 0, "crew": "C1", "section": "117.13(a)", "kind": "pairing", "pairing": "P1", "period": 1},
+        {"number": "12", "part": 0, "crew": "F1", "section": "117.13(a)", "kind": "pairing", "pairing": "P1", "period": 1},
+        {"number": "16", "part": 0, "crew": "F1", "section": "117.25(e)", "kind": "outside", "outside": "X2"},
+    ],
+)
+
+# ---- What is asked.
 
 # P4 is flown for twenty hours.
 LATE = "21 fly P4 1 17: 11:00 | 23:00-+1 07:00 | +1 07:30"
@@ -281,6 +381,12 @@ CASES = {
     "members": Call("members BOOK", "", Ran(0, MEMBERS, "")),
     "pairings": Call("pairings BOOK", "", Ran(0, PAIRINGS, "")),
     "pairings_open": Call("pairings BOOK --open", "", Ran(0, OPEN, "")),
+    "roster_json": Call("roster BOOK C1 --json", "", Ran(0, ROSTER_JSON, "")),
+    "limits_json": Call("limits BOOK C1 --with P2 --json", "", Ran(0, WITH_P2_JSON, "")),
+    "pairing_json": Call("pairing BOOK P1 --json", "", Ran(0, PAIRING_JSON, "")),
+    "exceedances_json": Call("exceedances BOOK --json", "", Ran(0, EXCEEDANCES_JSON, "")),
+    "members_json": Call("members BOOK --json", "", Ran(0, MEMBERS_JSON, "")),
+    "pairings_json": Call("pairings BOOK --open --json", "", Ran(0, OPEN_JSON, "")),
     "duty": Call(PERIOD, "", Ran(0, WITHIN, ""), stride=5),
     "serve_accepted": Exchange(request_of("20 assign P3 C1"), response(200, ACCEPTED)),
     "serve_refused": Exchange(request_of("20 assign P2 C1"), response(409, TOO_SOON)),
@@ -288,6 +394,7 @@ CASES = {
     "serve_roster": Exchange(get("/crew/C1"), response(200, ROSTER)),
     "serve_limits": Exchange(get("/reports/limits/C1/P2"), response(200, WITH_P2)),
     "serve_open": Exchange(get("/reports/open"), response(200, OPEN)),
+    "serve_json": Exchange(get("/json/crew/C1"), response(200, ROSTER_JSON)),
 }
 
 # ---- How it is tried.

@@ -86,6 +86,11 @@ def parts(*replies):
     return f'{{"parts":[{",".join(replies)}]}}'
 
 
+def report(value):
+    """A report in JSON, in short."""
+    return 200, compact(value) + "\n"
+
+
 ACCEPTED = '{"exceedances":[],"result":"accepted"}'
 STORE = '{"name":"Store","refusal":90,"result":"refused"}'
 MEMORY = '{"name":"Memory","refusal":91,"result":"refused"}'
@@ -98,6 +103,7 @@ NO_CREW = (404, refused(2, "NoSuchCrew"))
 NO_PAIRING = (404, refused(4, "NoSuchPairing"))
 NO_GROUND = (409, refused(15, "NoSuchGround"))
 NONE_EXCEEDED = (200, "EXCEEDANCES 0\n")
+NONE_EXCEEDED_JSON = report({"exceedances": []})
 HIRED = "ROSTER C1 captain Ada Ray\n"
 
 # ---- On a book without crew.
@@ -120,6 +126,14 @@ PUT /pairings/P1 HTTP/1.1|Host: x||
 HTTP/1.1 405 Method Not Allowed|Content-Type: application/json|Content-Length: 31|Allow: GET, HEAD|Connection: close||{"result":"error","status":405}
 GET /crew/C9 HTTP/1.1|Host: x||
 HTTP/1.1 404 Not Found|Content-Type: application/json|Content-Length: 52|Connection: close||{"name":"NoSuchCrew","refusal":2,"result":"refused"}
+GET /json/exceedances HTTP/1.1|Host: x||
+HTTP/1.1 200 OK|Content-Type: application/json|Content-Length: 19|Connection: close||{"exceedances":[]}_
+HEAD /json/exceedances HTTP/1.1|Host: x||
+HTTP/1.1 200 OK|Content-Type: application/json|Content-Length: 19|Connection: close||
+GET /json/crew/C9 HTTP/1.1|Host: x||
+HTTP/1.1 404 Not Found|Content-Type: application/json|Content-Length: 52|Connection: close||{"name":"NoSuchCrew","refusal":2,"result":"refused"}
+POST /json/exceedances HTTP/1.1|Host: x|Content-Length: 0||
+HTTP/1.1 405 Method Not Allowed|Content-Type: application/json|Content-Length: 31|Allow: GET, HEAD|Connection: close||{"result":"error","status":405}
 GET /crew/c9 HTTP/1.1|Host: x||
 HTTP/1.1 404 Not Found|Content-Type: application/json|Content-Length: 52|Connection: close||{"name":"NoSuchCrew","refusal":2,"result":"refused"}
 HEAD /crew/C9 HTTP/1.1|Host: x||
@@ -252,6 +266,32 @@ ANSWERS = [
     (get("/reports/pairings/B101"), 404),
     (get("/reports/opened"), 404),
     (get("/reports/p"), 404),
+    # Paths below /json, where there are reports alone.
+    (get("/json/exceedances?of=C9"), NONE_EXCEEDED_JSON),
+    (get("HTTP://a.b:80/json/exceedances"), NONE_EXCEEDED_JSON),
+    (get("/json/crew/C9"), NO_CREW),
+    (get("/json/crew/%439"), NO_CREW),
+    (get("/json/pairings/P9"), NO_PAIRING),
+    (get("/json/reports/limits/C9"), NO_CREW),
+    (get("/json/reports/limits/C9/P9"), NO_CREW),
+    (get("/json/reports/pairings"), report({"pairings": []})),
+    (get("/json/reports/open"), report({"pairings": []})),
+    (get("/crew/json"), NO_CREW),
+    (get("/json"), 404),
+    (get("/json/"), 404),
+    (get("/jsoncrew/C9"), 404),
+    (get("/JSON/exceedances"), 404),
+    (get("/json//exceedances"), 404),
+    (get("/json/json/exceedances"), 404),
+    (get("//json/exceedances"), 404),
+    (get("/exceedances/json"), 404),
+    (get("/json/exceedances/"), 404),
+    (get("/json/crew"), 404),
+    (get("/json/reports/members/C1"), 404),
+    (get("/json/requests"), 404),
+    (post("/json/requests", CANCEL), 404),
+    (post("/json/checks", CANCEL), 404),
+    (post("/json/imports/1", HEADER), 404),
     (post("/checks", CANCEL), NO_GROUND),
     (post("/checks?", CANCEL), NO_GROUND),
     (post("/checks", ""), NO_BODY),
@@ -304,12 +344,16 @@ OTHER_METHODS = [
     ("/reports/open", "POST", "GET, HEAD"),
     ("/reports/limits/C1/B101", "POST", "GET, HEAD"),
     ("/reports/limits/C1/B101", "head", "GET, HEAD"),
+    ("/json/crew/C1", "POST", "GET, HEAD"),
+    ("/json/reports/limits/C1/B101", "PUT", "GET, HEAD"),
+    ("/json/reports/members", "get", "GET, HEAD"),
 ]
 
 # What is ended after each of its bytes but the last, and how it is answered whole.
 HIRE = post("/requests", body_of(1, "hire C1 captain: Ada Ray"))
 CUT = [
     (get("/exceedances"), response(*NONE_EXCEEDED)),
+    (get("/json/exceedances"), response(*NONE_EXCEEDED_JSON)),
     (post("/requests", CANCEL), response(*NO_GROUND)),
     (post("/requests", CANCEL, "Expect: 100-continue"), CONTINUE + response(*NO_GROUND)),
     (post("/checks", body_of(1, "hire C1 captain: Ada Ray")), response(200, ACCEPTED)),
@@ -333,6 +377,12 @@ WITH_A_BODY_LEFT = [
 
 # ---- An hour of an office, and then more: what is asked in short, with the answer.
 
+
+def limit(section, minutes, most, duty=None, begin=None, exceeds=False):
+    """What is nearest to a limit, in JSON."""
+    return {"section": section, "minutes": minutes, "limit": most, "duty": duty, "from": begin, "exceeds": exceeds}
+
+
 LATE = compact({
     "do": "actual", "pairing": "B101", "period": 1, "report": "2025-06-10T17:00Z", "release": "2025-06-11T05:45Z", "segments": [
         {"out": "2025-06-10T18:00Z", "in": "2025-06-10T19:45Z"},
@@ -340,6 +390,21 @@ LATE = compact({
     ],
 })  # fmt: skip
 EXCEEDED = '{"exceedances":[{"crew":"C1","section":"117.13(a)"},{"crew":"F1","section":"117.13(a)"}],"result":"accepted"}'
+EASTERN = "EST5EDT,M3.2.0,M11.1.0"
+SEGMENTS = [
+    {"flight": "RB1", "from": "BOS", "out": "2025-06-10T18:00Z", "to": "IAD", "in": "2025-06-10T19:45Z"},
+    {"flight": "RB2", "from": "IAD", "out": "2025-06-10T23:00Z", "to": "BOS", "in": "2025-06-11T00:45Z"},
+]
+FLOWN = {
+    "report": "2025-06-10T17:00Z", "release": "2025-06-11T05:45Z", "segments": [
+        {"out": "2025-06-10T18:00Z", "in": "2025-06-10T19:45Z"},
+        {"out": "2025-06-11T03:30Z", "in": "2025-06-11T05:15Z"},
+    ],
+}  # fmt: skip
+B101 = {
+    "period": 1, "report": "2025-06-10T17:00Z", "release": "2025-06-11T01:15Z", "segments": SEGMENTS, "actual": FLOWN,
+    "fdp": 735, "flight": 210,
+}  # fmt: skip
 SHORT_REST = '{"exceedances":[{"crew":"C1","section":"117.25(e)"}],"result":"accepted"}'
 ANOTHER_B102 = schedule([
     "plan P10 20: 06:30 | 07:30-10:30 | 11:00",
@@ -350,7 +415,9 @@ TORN = "\ufeff" + HEADER.replace("\n", "\r\n") + "P1,1,2025-06-10T11:00Z,2025-06
 
 HOUR = [
     ("GET /crew/C1", NO_CREW),
+    ("GET /json/crew/C1", NO_CREW),
     ("GET /reports/limits/C1", NO_CREW),
+    ("GET /json/reports/members", report({"bases": [{"base": "HOME", "zone": EASTERN}], "members": []})),
     # What is only checked is answered, and not done.
     (check("1 hire C1 captain: Ada Ray"), (200, ACCEPTED)),
     (check("1 hire C1 captain: Ada Ray"), (200, ACCEPTED)),
@@ -369,6 +436,9 @@ HOUR = [
     (check("9 plan P9"), (422, refused(19, "SegmentCount", period=0))),
     ("GET /crew/C1", (200, HIRED)),
     ("GET /crew/F1", (200, "ROSTER F1 first officer Zoë Roy\n")),
+    ("GET /json/crew/F1", report({
+        "crew": "F1", "name": "Zoë Roy", "seat": "first officer", "base": "HOME", "zone": EASTERN, "duties": [],
+    })),
     (("/imports/3", JUNE), (200, parts(ACCEPTED, ACCEPTED, ACCEPTED))),
     (("/imports/3", JUNE), (200, parts(ACCEPTED, ACCEPTED, ACCEPTED))),
     (("/imports/500", ANOTHER_B102), (200, parts(ACCEPTED, refused(5, "PairingExists"), ACCEPTED))),
@@ -401,7 +471,21 @@ LIMITS C1 captain Ada Ray with B102
 117.25(b) 150:15 of 30:00 B102/1 within
 117.25(e) 9:30 of 10:00 B102/1 exceeds
 """)),
+    ("GET /json/reports/limits/C1/B102", report({
+        "crew": "C1", "name": "Ada Ray", "seat": "captain", "pairing": "B102", "limits": [
+            limit("117.11(a)(1)", 210, 540, duty="B102/1"),
+            limit("117.13(a)", 495, 780, duty="B102/1"),
+            limit("117.23(b)(1)", 420, 6000, begin="2025-05-14T19:00Z"),
+            limit("117.23(b)(2)", 420, 60000, begin="2024-06-12T00:00Z"),
+            limit("117.23(c)(1)", 960, 3600, begin="2025-06-04T19:00Z"),
+            limit("117.23(c)(2)", 960, 11400, begin="2025-05-14T19:00Z"),
+            limit("117.25(b)", 9015, 1800, duty="B102/1"),
+            limit("117.25(e)", 570, 600, duty="B102/1", exceeds=True),
+        ],
+    })),
     ("GET /reports/limits/C1/B999", NO_PAIRING),
+    ("GET /json/reports/limits/C1/B999", NO_PAIRING),
+    ("GET /json/reports/limits/C9/B999", NO_CREW),
     ("GET /reports/limits/C1/b102", NO_PAIRING),
     ("GET /reports/limits/C9/B102", NO_CREW),
     ("GET /reports/limits/C9/B999", NO_CREW),
@@ -454,11 +538,21 @@ first officer F1
 1.1 RB1 BOS 2025-06-10T18:00Z IAD 2025-06-10T19:45Z
 1.2 RB2 IAD 2025-06-11T03:30Z BOS 2025-06-11T05:15Z
 """)),
+    ("GET /json/pairings/B101", report({"pairing": "B101", "captain": "C1", "first_officer": "F1", "periods": [B101]})),
     ("GET /crew/C1", (200, """\
 ROSTER C1 captain Ada Ray
 2025-06-10T17:00Z 2025-06-11T05:45Z pairing B101/1 actual fdp 12:15 flight 3:30
 """)),
+    ("GET /json/crew/C1", report({
+        "crew": "C1", "name": "Ada Ray", "seat": "captain", "base": "HOME", "zone": EASTERN, "duties": [
+            {**B101, "kind": "pairing", "pairing": "B101", "begin": "2025-06-10T17:00Z", "end": "2025-06-11T05:45Z"},
+        ],
+    })),
     ("GET /exceedances", (200, "EXCEEDANCES 2\n7 C1 117.13(a) B101/1\n7 F1 117.13(a) B101/1\n")),
+    ("GET /json/exceedances", report({"exceedances": [
+        {"number": "7", "part": 0, "crew": "C1", "section": "117.13(a)", "kind": "pairing", "pairing": "B101", "period": 1},
+        {"number": "7", "part": 0, "crew": "F1", "section": "117.13(a)", "kind": "pairing", "pairing": "B101", "period": 1},
+    ]})),
     ("GET /crew/C9", NO_CREW),
     ("GET /pairings/B999", NO_PAIRING),
     ("10 base HOME: UTC0", (409, refused(21, "BaseExists"))),

@@ -298,13 +298,20 @@ def try_bash(office, folder, wanted_zones):
     for name in names:
         first = wanted_zones if name == "duty" else ["book.db", "folder"]
         office.expect(f"{name} and a blank", sorted(ask(name, "")), sorted(first))
-        more = {"do": ["--dry-run", "--lines"], "limits": ["--with"], "pairings": ["--open"], "serve": ["--connections"]}.get(name, [])
+        more = {
+            "do": ["--dry-run", "--lines"],
+            "serve": ["--connections"],
+            "limits": ["--with", "--json"],
+            "pairings": ["--open", "--json"],
+            **dict.fromkeys(["roster", "pairing", "exceedances", "members"], ["--json"]),
+        }.get(name, [])
         office.expect(f"{name} -", ask(name, "-"), [*more, *options])
     office.expect("init FILE", ask("init", "new.db", "M"), [it for it in wanted_zones if it.startswith("M")])
     office.expect("a third word of init", ask("init", "new.db", "UTC0", ""), [])
     office.expect("do --lines", sorted(ask("do", "--lines", "")), ["book.db", "folder"])
     office.expect("do FILE", ask("do", "book.db", ""), [])
     office.expect("pairings --open", sorted(ask("pairings", "--open", "")), ["book.db", "folder"])
+    office.expect("pairings --open --json", sorted(ask("pairings", "--open", "--json", "")), ["book.db", "folder"])
     office.expect("members FILE", ask("members", "book.db", ""), [])
     office.expect("serve --connections 9", sorted(ask("serve", "--connections", "9", "")), ["book.db", "folder"])
     office.expect("serve --connections", ask("serve", "--connections", ""), [])
@@ -337,6 +344,8 @@ def try_zsh(office, folder):
         ("serve --connections 9 bo", "serve --connections 9 book.db "),
         ("limits --w", "limits --with "),
         ("limits --with B102 bo", "limits --with B102 book.db "),
+        ("members --j", "members --json "),
+        ("members --json bo", "members --json book.db "),
         ("do book.db --h", "do book.db --help "),
         ("--v", "--version "),
         ("rest b", "rest b"),

@@ -332,9 +332,19 @@ def a_chart_of_a_server(examples):
 
 
 def a_chart_in_utc(examples):
-    chart, bad = charted(examples, examples.book.file, "C9")
+    chart, bad = charted(examples, examples.book.file, "C9", "--zone", "UTC0")
     bad += chart.differs({"C9.pairing.P3.1": (at(10, 16), at(11, 7))})
-    return bad + unlike("what says the time", [it for it in chart.texts if "UTC" in it or "local" in it], ["UTC"])
+    return bad + unlike("what says the time", [it for it in chart.texts if "local" in it], ["local time by UTC0"])
+
+
+def a_chart_by_the_zone_of_the_base(examples):
+    """Without --zone local time is that of the first member's base: of DEN, six hours behind UTC."""
+    chart, bad = charted(examples, examples.book.file, "C9", "C1")
+    mine = {name: span for name, span in BARS.items() if name.startswith("C1")}
+    two_hours = 2 / 24  # that Denver is behind New York
+    bad += chart.differs({"C9.pairing.P3.1": (at(10, 10), at(11, 1)), **{name: (a - two_hours, b - two_hours) for name, (a, b) in mine.items()}})
+    said = [it for it in chart.texts if "UTC" in it or "local" in it]
+    return bad + unlike("what says the time", sorted(said), ["UTC: 00:00 of each day", "local time by MST7MDT,M3.2.0,M11.1.0"])
 
 
 def the_month_of_the_first_duty(examples):
@@ -348,8 +358,8 @@ def the_month_of_the_first_duty(examples):
     for words, days, title, span in (
         (["--zone", ZONE], 30, "Duties in June 2025", (at(30, 22), 30)),
         (["--zone", ZONE, "--month", "2025-07"], 31, "Duties in July 2025", (0, at(1, 6))),
-        ([], 31, "Duties in July 2025", (at(1, 2), at(1, 10))),
-        (["--month", "2025-06"], 30, "Duties in June 2025", None),
+        (["--zone", "UTC0"], 31, "Duties in July 2025", (at(1, 2), at(1, 10))),
+        (["--zone", "UTC0", "--month", "2025-06"], 30, "Duties in June 2025", None),
     ):
         chart, differs = charted(examples, book.file, "C1", *words, days=days)
         bad += differs + chart.differs({"C1.pairing.P1.1": span} if span else {})
@@ -377,7 +387,7 @@ def duties_at_one_time(examples):
         outside X1 C1 10: 11:00 | 12:00-19:00 | 20:00
         outside X2 C1 10: 15:00 | 16:00-22:00 | 23:00
     """)  # fmt: skip
-    chart, bad = charted(examples, book.file, "C1")
+    chart, bad = charted(examples, book.file, "C1", "--zone", "UTC0")
     bad += chart.differs({"C1.outside.X1": (at(10, 11), at(10, 20)), "C1.outside.X2": (at(10, 15), at(10, 23))})
     heights = sorted(chart.heights.values())
     bad += unlike("whether one is below the other", [upper[1] <= lower[0] for upper, lower in zip(heights, heights[1:])], [True])
@@ -424,12 +434,12 @@ def whoever_is_not_there_is_refused(examples, script):
     with serving(book, 3) as server:
         bad += unlike("of a server", examples.run(script, address_of(server), "C8", *more), no_crew)
         bad += unlike("a wrong id", examples.run(script, address_of(server), "C 1/", *more), no_crew)
-        no_path = f"{script}: {address_of(server)}/crew/: HTTP Error 404: Not Found\n"
+        no_path = f"{script}: {address_of(server)}/json/crew/: HTTP Error 404: Not Found\n"
         bad += unlike("no id", examples.run(script, address_of(server), "", *more), Ran(1, "", no_path))
     nobody = f"http://127.0.0.1:{free_port()}"
     ran = examples.run(script, nobody, "C1", *more)
     bad += unlike("no server", (ran.status, ran.out, ran.err.count("\n")), (1, "", 1))
-    bad += unlike("no server", ran.err.startswith(f"{script}: {nobody}/crew/C1: "), True)
+    bad += unlike("no server", ran.err.startswith(f"{script}: {nobody}/json/crew/C1: "), True)
     return bad + unlike("what is written", output.exists(), False)
 
 
@@ -471,8 +481,8 @@ def nothing_is_left_beside_a_script(examples, script):
 CASES = {
     CALENDAR: (a_calendar_of_a_file, a_calendar_of_a_server),
     CHART: (
-        a_chart_of_a_file, a_chart_of_all_members, a_chart_of_a_server, a_chart_in_utc, the_month_of_the_first_duty, a_month_of_a_change_of_clocks,
-        duties_at_one_time, the_same_chart_again, words_that_a_chart_refuses,
+        a_chart_of_a_file, a_chart_of_all_members, a_chart_of_a_server, a_chart_in_utc, a_chart_by_the_zone_of_the_base,
+        the_month_of_the_first_duty, a_month_of_a_change_of_clocks, duties_at_one_time, the_same_chart_again, words_that_a_chart_refuses,
     ),
 }  # fmt: skip
 OF_BOTH = (whoever_is_not_there_is_refused, the_program_is_found, nothing_is_left_beside_a_script)

@@ -136,6 +136,9 @@ command_lines() {
     missing '<FILE>' members
     missing '<FILE>' pairings
     missing '<FILE>' pairings --open
+    missing '<FILE>' pairings --open --json
+    missing '<FILE>' members --json
+    missing '<CREW>' roster --json "$room/unmade"
     missing $'<FILE>\n<PORT>' serve
     missing '<PORT>' serve "$room/unmade"
     missing '<PORT>' serve "$room/unmade" --connections 1
@@ -158,6 +161,13 @@ command_lines() {
     unexpected exceedances "$room/unmade" C1
     unexpected members "$room/unmade" C1
     unexpected members "$room/unmade" --open
+    unexpected members "$room/unmade" --json C1
+    unexpected members "$room/unmade" --jso
+    unexpected exceedances "$room/unmade" -j
+    unexpected roster "$room/unmade" C1 --json C2
+    unexpected limits "$room/unmade" C1 --with P1 --json P2
+    unexpected 'do' "$room/unmade" --json
+    unexpected init "$room/unmade" "$zone" --json
     unexpected pairings "$room/unmade" B101
     unexpected pairings "$room/unmade" --open B101
     unexpected pairings --open "$room/unmade" "$room/unmade"
@@ -196,6 +206,12 @@ command_lines() {
         pairings "$room/unmade" --open --open
     case_of open_of_a_word 2 '' $'error: unexpected value \'no\' for \'--open\' found; no more were expected\n*' \
         pairings "$room/unmade" --open=no
+    case_of json_twice 2 '' $'error: the argument \'--json\' cannot be used multiple times\n*' \
+        roster "$room/unmade" C1 --json --json
+    case_of json_of_a_word 2 '' $'error: unexpected value \'no\' for \'--json\' found; no more were expected\n*' \
+        exceedances "$room/unmade" --json=no
+    case_of with_no_pairing_but_json 2 '' $'error: a value is required for \'--with <PAIRING>\' but none was supplied\n*' \
+        limits "$room/unmade" C1 --with --json
     case_of with_no_pairing 2 '' $'error: a value is required for \'--with <PAIRING>\' but none was supplied\n*' \
         limits "$room/unmade" C1 --with
     case_of with_twice 2 '' $'error: the argument \'--with <PAIRING>\' cannot be used multiple times\n*' \
@@ -214,13 +230,13 @@ helps() {
         '90 Store' --dry-run --lines 'rosterbook do roster.db --lines' 'Exit status'
     help_of import import FILE NUMBER 'CSV on standard input' 'from 1 to 9223372036854775807' '  pairing,period,report,release,flight,from,out,to,in' \
         'record 1' '90 Store' 'Exit status'
-    help_of roster roster FILE CREW 'rosterbook roster roster.db C1' 'hours and minutes' 'Exit status'
-    help_of pairing pairing FILE PAIRING 'rosterbook pairing roster.db B101' 'Exit status'
-    help_of limits limits FILE CREW '--with <PAIRING>' 'rosterbook limits roster.db C1 --with B102' "'exceeds' or" "'within'" '12 Limits' \
+    help_of roster roster FILE CREW --json 'rosterbook roster roster.db C1' 'hours and minutes' 'Exit status'
+    help_of pairing pairing FILE PAIRING --json 'rosterbook pairing roster.db B101' 'Exit status'
+    help_of limits limits FILE CREW '--with <PAIRING>' --json 'rosterbook limits roster.db C1 --with B102' "'exceeds' or" "'within'" '12 Limits' \
         'Exit status'
-    help_of exceedances exceedances FILE 'rosterbook exceedances roster.db' "'outside'" 'Exit status'
-    help_of members members FILE 'rosterbook members roster.db' 'order of the ids' 'Exit status'
-    help_of pairings pairings FILE --open 'rosterbook pairings roster.db --open' "'flown'" "'-' for a free seat" 'Exit status'
+    help_of exceedances exceedances FILE --json 'rosterbook exceedances roster.db' "'outside'" 'Exit status'
+    help_of members members FILE --json 'rosterbook members roster.db' 'order of the ids' 'Exit status'
+    help_of pairings pairings FILE --open --json 'rosterbook pairings roster.db --open' "'flown'" "'-' for a free seat" 'Exit status'
     help_of serve serve FILE PORT '--connections <N>' '[default: 1000000]' 'from 1 to 65535' 'from 1 to 1000000' \
         'rosterbook serve roster.db 8117 --connections 2' 'listening PORT' '92 Channel' '93 Network' '90 Store' 'Exit status'
 }
@@ -259,15 +275,23 @@ books() {
     case_of members_of_an_empty_book 0 'MEMBERS 0' '' members "$book"
     case_of pairings_of_an_empty_book 0 'PAIRINGS 0' '' pairings "$book"
     case_of open_pairings_of_an_empty_book 0 'PAIRINGS 0' '' pairings --open "$book"
+    case_of exceedances_in_json 0 '{"exceedances":\[\]}' '' exceedances "$book" --json
+    case_of members_in_json 0 "{\"bases\":\\[{\"base\":\"HOME\",\"zone\":\"$zone\"}\\],\"members\":\\[\\]}" '' members --json "$book"
+    case_of pairings_in_json 0 '{"pairings":\[\]}' '' pairings "$book" --json
+    case_of open_pairings_in_json 0 '{"pairings":\[\]}' '' pairings --json "$book" --open
     # Standard input is at its end: it is no command, and has no line.
     case_of no_command_on_standard_input 1 "$no_command" '' 'do' "$book" --dry-run
     case_of no_line_on_standard_input 0 '' '' 'do' "$book" --lines
     case_of no_line_to_check 0 '' '' 'do' --lines "$book" --dry-run
     case_of roster_of_nobody 1 '' 'refused 2 NoSuchCrew' roster "$book" C1
+    case_of roster_of_nobody_in_json 1 '' 'refused 2 NoSuchCrew' roster "$book" C1 --json
+    case_of limits_of_nobody_in_json 1 '' 'refused 2 NoSuchCrew' limits "$book" C1 --with B101 --json
     case_of pairing_of_no_text 1 '' 'refused 4 NoSuchPairing' pairing "$book" ''
+    case_of pairing_of_no_text_in_json 1 '' 'refused 4 NoSuchPairing' pairing "$book" '' --json
     case_of roster_in_no_folder 3 '' 'refused 40 NotABook' roster "$room/unmade/roster.db" C1
     case_of exceedances_of_a_text 3 '' 'refused 90 Store' exceedances "$text"
     case_of members_in_no_folder 3 '' 'refused 40 NotABook' members "$room/unmade/roster.db"
+    case_of members_in_json_in_no_folder 3 '' 'refused 40 NotABook' members "$room/unmade/roster.db" --json
     case_of pairings_of_a_text 3 '' 'refused 90 Store' pairings "$text" --open
     case_of check_in_no_folder 3 '' 'refused 40 NotABook' 'do' "$room/unmade/roster.db" --dry-run
     case_of lines_in_no_folder 3 '' 'refused 40 NotABook' 'do' "$room/unmade/roster.db" --lines
@@ -275,6 +299,7 @@ books() {
     lost exceedances full exceedances "$book"
     lost members full members "$book"
     lost pairings full pairings "$book" --open
+    lost members_in_json full members "$book" --json
     lost check full 'do' "$book" --dry-run
     untold roster_of_nobody full roster "$book" C1
     # A book is made before that is printed.

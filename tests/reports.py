@@ -833,7 +833,8 @@ def no_book_is_no_report(room):
         tables.execute("CREATE TABLE other (x)")
         tables.commit()
     of_ids = (["roster", "C1"], ["limits", "C1"], ["limits", "C1", "--with", "P1"], ["pairing", "P1"])
-    for words in (*of_ids, ["exceedances"], ["members"], ["pairings"], ["pairings", "--open"]):
+    all_words = (*of_ids, ["exceedances"], ["members"], ["pairings"], ["pairings", "--open"])
+    for words in (*all_words, *([*it, "--json"] for it in all_words)):
         for name, wanted in (("none.db", "refused 40 NotABook\n"), ("other.db", "refused 40 NotABook\n")):
             ran = rosterbook(words[0], folder / name, *words[1:])
             bad += [] if ran == Ran(3, "", wanted) else [f"{words} of {name}: {ran}"]
@@ -861,7 +862,7 @@ def a_log_stays_as_it_is(room):
         """), ""))  # fmt: skip
     given = compact({"number": 900, **order("release P1 C1")})
     reports = ["limits C1", "limits C1 --with P1", "pairing P1", "exceedances", "members", "pairings", "pairings --open"]
-    for words in (*reports, "do --dry-run", "do --lines --dry-run"):
+    for words in (*reports, *(f"{it} --json" for it in reports), "do --dry-run", "do --lines --dry-run"):
         command, *rest = words.split(" ")
         ran, is_same = shown(left, [command, left.file, *rest], given)
         bad += [] if is_same and ran.status == 0 else [f"{words}: the log was copied, or {ran}"]

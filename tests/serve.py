@@ -32,8 +32,8 @@ from statistics import median
 
 from exchanges import (
     ACCEPTED, ANSWERS, CANCEL, CONTINUE, CUT, HEADER, HIRE, HIRED, HOUR, JUNE, LONGEST, NO_CREW, NO_GROUND, NO_PAIRING,
-    NONE_EXCEEDED, ONE_PAIRING, OTHER_METHODS, STORE, WITH_A_BODY_LEFT, answer_of, body_of, error, exchanges, get, hour, parts, post,
-    refused, request_of, response, wire,
+    NONE_EXCEEDED, NONE_EXCEEDED_JSON, ONE_PAIRING, OTHER_METHODS, STORE, WITH_A_BODY_LEFT, answer_of, body_of, error, exchanges,
+    get, hour, parts, post, refused, request_of, response, wire,
 )  # fmt: skip
 from office import PROGRAM, TOP, Book, Ran, build, order, schedule, told
 from refusing import folder
@@ -230,6 +230,8 @@ def try_curl(desk):
         (response(*NO_PAIRING), "/pairings/B999"),
         (response(*NONE_EXCEEDED, method="HEAD"), "--head", "/exceedances"),
         (response(*NONE_EXCEEDED), "--http1.0", "/exceedances"),
+        (response(*NONE_EXCEEDED_JSON), "/json/exceedances"),
+        (response(*NONE_EXCEEDED_JSON, method="HEAD"), "--head", "/json/exceedances"),
         (error(405, "GET, HEAD"), "--request", "DELETE", "/crew/C1"),
         (error(413), "--data-binary", f"@{long}", "/requests"),
         (error(501), "--data", "x", "--header", "Transfer-Encoding: chunked", "/requests"),

@@ -324,6 +324,7 @@ def try_answer(desk, name, statements, words, wanted):
 SUBCOMMANDS = (
     "do FILE", "do FILE --dry-run", "do FILE --lines", "do FILE --lines --dry-run", "import FILE 1", "roster FILE C1", "pairing FILE P1",
     "limits FILE C1", "limits FILE C1 --with P1", "exceedances FILE", "members FILE", "pairings FILE", "pairings FILE --open",
+    "members FILE --json",
 )  # fmt: skip
 
 

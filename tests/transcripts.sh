@@ -10,7 +10,7 @@
 #
 # and any other a line that the command writes to standard output. The port 8117 stands for one on which nobody listens. Says on
 # standard error what differs; the last line of standard output is 'N passed, M failed'. One that calls the shell `sqlite3`, or
-# `curl`, is passed over where there is none on the PATH.
+# `curl`, is passed over where there is none on the PATH. So is a single command that calls `jq`, which changes nothing.
 set -u
 cd "$(dirname "$(readlink -f "${BASH_SOURCE[0]}")")/.." || exit 2
 top=$PWD
@@ -68,6 +68,9 @@ for file in "$room"/{README,REFUSALS,manual}-*.txt tests/transcripts/*.txt; do
             continue 2
         fi
     done
+    if ! command -v jq >/dev/null; then
+        awk '/^\$ / { passed = / jq / } !passed' "$file" >"$room/without_jq" && file=$room/without_jq
+    fi
     if difference=$(diff "$file" <(played "$file")); then
         passed=$((passed + 1))
     else

@@ -6,15 +6,19 @@ use Rattle.command.specs.Keys.{KeyParts}
 use Rattle.command.specs.declared.instruction.Instruction.{Instruction}
 use Rattle.stored_json.specs.declared.fault.CodecFault.{CodecFault}
 use Rattle.codec.specs.Requests.{read_request}
+use Rattle.request.specs.declared.form.Form.{Form}
+use Rattle.request.specs.declared.form.Form.TheVariants as form
+use Rattle.request.specs.declared.subject.Subject.{Subject}
 use Rattle.roster.specs.State.{State}
+use Rattle.part.specs.Shown.{Absence, IsShown, shown_part}
+use Rattle.part_json.specs.ShownJson.{IsShownJson}
+use Rattle.part_json.proofs.Alike.{part_is_shown_alike_json}
 use Rattle.state_rows.specs.declared.fault.StoreFault.{StoreFault}
 use Rattle.state_rows.specs.declared.fault.StoreFault.TheVariants.{Store}
 use Rattle.lookup.specs.Reads.{ChangesNothing}
-use Rattle.store.specs.Shown.{Absence, IsShown}
-use Rattle.store.specs.declared.show.Show.{Show}
 use Rattle.book.specs.Kept.{HasTablesOf, IsDurablyAt, IsClean, Kept, is_store_fault}
 use Rattle.asking.specs.Answers.{ReportsUnread}
-use Rattle.asking.specs.Reports.{HasGivenRoster, IsReportAsked, IsShowAsked}
+use Rattle.asking.specs.Reports.{HasGivenRoster, IsReportAsked, IsShowAsked, IsShownAs}
 use Rattle.asking.specs.Requests.{IsCheckedAsRead, IsCommandAsked, IsCommandChecked, IsDoneAsRead, IsRequestAsked, IsRequestChecked}
 use Rattle.asking.specs.declared.answers.AskFault.{AskFault}
 use Rattle.asking.specs.declared.answers.JsonAnswer.{JsonAnswer}
@@ -45,19 +49,34 @@ check_unread g book body fault result is reported = inl (subst (λ r. IsCheckedA
 
 -- ---- Reports
 
-module _ {S : Type 0} (g : Ghosts S) (old new : Kept S) (what : Show) where
+module _ {S : Type 0} (g : Ghosts S) (old new : Kept S) (what : Subject (List ℕ) (List ℕ)) where
+  -- what is shown of the part of a state in each form is what is shown of the state
+  in_each_form : (s roster : State) → roster ≡ shown_part s what → ((text : Result (List ℕ) Absence) → IsShown roster what text ↔ IsShown s what text)
+      → (asked : Form) (text : Result (List ℕ) Absence) → IsShownAs asked roster what text ↔ IsShownAs asked s what text
+  in_each_form s roster part alike form.Text text = alike text
+  in_each_form s roster part alike form.Json text = subst (λ r. IsShownJson r what text ↔ IsShownJson s what text) (sym part) (part_is_shown_alike_json s what text)
+
+  given_in_each : (s : State) (shown : Result State StoreFault) → IfOk shown (λ roster. (text : Result (List ℕ) Absence) → IsShown roster what text ↔ IsShown s what text)
+      → IfOk shown (λ roster. roster ≡ shown_part s what)
+      → IfOk shown (λ roster. (asked : Form) (text : Result (List ℕ) Absence) → IsShownAs asked roster what text ↔ IsShownAs asked s what text)
+  given_in_each s (Ok roster) alike part = in_each_form s roster part alike
+  given_in_each s (Err fault) alike part = tt
+
   pub has_shown : (shown : Result State StoreFault) → new.failed ≡ (old.failed || is_store_fault shown)
       → (IsTrue old.failed → (shown ≡ Err Store) × (new ≡ old))
       → ChangesNothing (state g old.held) (state g new.held)
       → ((s : State) → IsDurablyAt g old s → IsDurablyAt g new s)
       → ((s : State) → IsDurablyAt g old s → IsClean g new → IfOk shown (λ roster. (text : Result (List ℕ) Absence) → IsShown roster what text ↔ IsShown s what text))
+      → ((s : State) → IsDurablyAt g old s → IsClean g new → IfOk shown (λ roster. roster ≡ shown_part s what))
       → ((s : State) → IsDurablyAt g old s → HasTablesOf g old s → OnOk shown (HasTablesOf g new s))
       → HasGivenRoster g old new what shown
-  has_shown shown failed shut unchanged kept text tables = record {
+  has_shown shown failed shut unchanged kept text part tables = record {
     call = record { failed = failed; shut = shut; unchanged = unchanged; kept = kept };
-    text = text;
+    text = λ s at clean. given_in_each s shown (text s at clean) (part s at clean);
+    part = part;
     tables = tables;
   }
 
-  pub report_shown : (wanted : Show) (result : Result Shown AskFault) → what ≡ wanted → IsShowAsked g old new what result → IsReportAsked g old new wanted result
-  report_shown wanted result is asked = inl (subst (λ w. IsShowAsked g old new w result) is asked)
+  pub report_shown : (wanted : Subject (List ℕ) (List ℕ)) (asked : Form) (result : Result Shown AskFault) → what ≡ wanted → IsShowAsked g old new what asked result
+      → IsReportAsked g old new wanted asked result
+  report_shown wanted asked result is shown = inl (subst (λ w. IsShowAsked g old new w asked result) is shown)

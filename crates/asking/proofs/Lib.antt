@@ -1,3 +1,4 @@
 pub mod Asked
 pub mod Chains
 pub mod Parts
+pub mod ShownAs

@@ -1,7 +1,9 @@
-//! Reports: a text by what a book shows. The definition is `IsReportAsked` (`specs/Reports.antt`).
-//! Worked texts: `tests/reports.py`. Wrong bodies: `must-fail-more/`.
+//! Reports: a text, or JSON, by what a book shows. The definition is `IsReportAsked` (`specs/Reports.antt`).
+//! Worked texts: `tests/reports.py`, in JSON `tests/report_json.py`. Wrong bodies: `must-fail-more/`.
 ghost use Rattle.std.specs.Prelude.{◌≡◌, IfOk};
 ghost use Rattle.std.specs.Option.{option_copied};
+ghost use Rattle.request.specs.Subjects.{subject_copied};
+ghost use Rattle.request.specs.declared.form.Form.TheVariants as forms;
 ghost use Rattle.book.specs.Calls.{IsAfterCalls};
 ghost use Rattle.asking.specs.Reports as spec;
 
@@ -9,35 +11,17 @@ use crate::answers::AskFault;
 use book::{Book, BookFault, Show};
 use duty::{CrewId, PairingId};
 use limits_report::limits_text;
-use list_report::{Listed, members_text, pairings_text};
-use report::{ReportFault, exceedance_text, pairing_text, roster_text};
+use report::{
+    ReportFault, exceedance_text, members_text, pairing_text, pairings_text, roster_text,
+};
+use report_json::{
+    exceedances_json, limits_json, members_json, pairing_json, pairings_json, roster_json,
+};
+use request::{Form, Subject};
 use roster::Roster;
 use sqlite::Alter;
 use std::alloc::Global;
 use values::{MemoryFault, Text};
-
-/// What a report is asked of. An id outside its shape names nothing.
-#[derive(Clone, Copy)]
-pub enum Subject<'a> {
-    /// The roster of the crew member of this id.
-    Crew(&'a str),
-    /// How near the duties of a crew member are to each limit, with the periods of a pairing as if the member held it, if
-    /// one is named.
-    Limits {
-        /// The id of the crew member.
-        crew: &'a str,
-        /// The id of the pairing.
-        with: Option<&'a str>,
-    },
-    /// The pairing of this id.
-    Pairing(&'a str),
-    /// All exceedances.
-    Exceedances,
-    /// All members.
-    Members,
-    /// All pairings, or those with a free seat.
-    Pairings(Listed),
-}
 
 /// What is shown.
 #[derive(Drop)]
@@ -50,27 +34,27 @@ pub enum Shown {
     NoSuchPairing,
 }
 
-/// Asks a book for the text of a member's roster, of a member's limits, of a pairing, of the exceedances or of a list. No table
-/// is changed.
+/// Asks a book for a member's roster, a member's limits, a pairing, the exceedances or a list, in a form. No table is changed.
 pub fn ask_report<S: Alter>(
     alloc: Global,
     book: &mut Book<S>,
-    subject: Subject<'_>,
+    subject: Subject<&str, &str>,
+    form: Form,
 ) -> Result<Shown, AskFault>
     ensures asked { spec.IsReportAsked S.Store book.old book.new
-        (spec.show_of subject.entry) result }
+        (subject_copied subject.entry) form result }
     ensures calls { IsAfterCalls S.Store book.old book.new }
 {
     let Ok(what) = shown_by(alloc, subject) else {
         return Err(AskFault::Memory);
     };
     let shown = book.show(alloc, &what);
-    write_report(alloc, shown, &what)
+    write_report(alloc, shown, &what, form)
 }
 
 /// Names what a book shows for a report.
-fn shown_by(alloc: Global, subject: Subject<'_>) -> Result<Show, MemoryFault>
-    ensures { IfOk result (λ what. what ≡ spec.show_of subject.entry) }
+fn shown_by(alloc: Global, subject: Subject<&str, &str>) -> Result<Show, MemoryFault>
+    ensures { IfOk result (λ what. what ≡ subject_copied subject.entry) }
 {
     Ok(match subject {
         Subject::Crew(id) => Show::Crew(CrewId::new(copy_of(alloc, id)?)),
@@ -107,18 +91,29 @@ fn write_report(
     alloc: Global,
     shown: Result<Roster, BookFault>,
     what: &Show,
+    form: Form,
 ) -> Result<Shown, AskFault>
-    ensures { spec.ReportsShown shown what.now result }
+    ensures { spec.ReportsShown shown what.now form result }
 {
     match shown {
-        Ok(roster) => shown_of(text_of(alloc, &roster, what)),
+        Ok(roster) => shown_of(written(alloc, &roster, what, form)),
         Err(fault) => Err(AskFault::Book(fault)),
     }
 }
 
-/// Writes a text of a roster.
+/// Writes a report on a roster, in a form.
+fn written(alloc: Global, roster: &Roster, what: &Show, form: Form) -> Result<String, ReportFault>
+    ensures { spec.IsReportText roster.now what.now form result }
+{
+    match form {
+        Form::Text => text_of(alloc, roster, what),
+        Form::Json => json_of(alloc, roster, what),
+    }
+}
+
+/// Writes a report on a roster as text.
 fn text_of(alloc: Global, roster: &Roster, what: &Show) -> Result<String, ReportFault>
-    ensures { spec.IsReportText roster.now what.now result }
+    ensures { spec.IsReportText roster.now what.now forms.Text result }
 {
     match what {
         Show::Crew(who) => roster_text(alloc, roster, who),
@@ -127,6 +122,20 @@ fn text_of(alloc: Global, roster: &Roster, what: &Show) -> Result<String, Report
         Show::Exceedances => exceedance_text(alloc, roster),
         Show::Members => as_report(members_text(alloc, roster)),
         Show::Pairings(which) => as_report(pairings_text(alloc, roster, *which)),
+    }
+}
+
+/// Writes a report on a roster as JSON.
+fn json_of(alloc: Global, roster: &Roster, what: &Show) -> Result<String, ReportFault>
+    ensures { spec.IsReportText roster.now what.now forms.Json result }
+{
+    match what {
+        Show::Crew(who) => roster_json(alloc, roster, who),
+        Show::Limits { crew, with } => limits_json(alloc, roster, crew, with.as_ref()),
+        Show::Pairing(id) => pairing_json(alloc, roster, id),
+        Show::Exceedances => as_report(exceedances_json(alloc, roster)),
+        Show::Members => as_report(members_json(alloc, roster)),
+        Show::Pairings(which) => as_report(pairings_json(alloc, roster, *which)),
     }
 }
 

@@ -10,7 +10,7 @@ use crate::answers::AskFault;
 use book::{Answer, Book};
 use codec::{CodecFault, schedule_of_csv};
 use duty::Pairing;
-use request_number::RequestNumber;
+use request::RequestNumber;
 use sqlite::Alter;
 use std::alloc::Global;
 
@@ -77,7 +77,7 @@ fn ask_parts<S: Alter, L: Listener>(
         (import number pairings.items) result }
     ensures calls { IsAfterCalls S.Store book.old book.new }
 {
-    let mut import = Book::<S>::import(number.get(), pairings);
+    let mut import = Book::<S>::import(number, pairings);
     let mut part = 1u16;
     while let Some(answer) = import.next(alloc, book) {
         let answer = match answer {

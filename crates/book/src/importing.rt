@@ -10,6 +10,7 @@ use crate::answer::Answer;
 use crate::keeping::Book;
 use command::Key;
 use duty::Pairing;
+use request::RequestNumber;
 use roster::laws::resumes;
 use sqlite::Alter;
 use std::alloc::Global;
@@ -20,7 +21,7 @@ use store::StoreFault;
 /// so on. Contracts see its number, its pairings and the part that comes next.
 #[derive(Drop)]
 pub struct Import {
-    number: u64,
+    number: RequestNumber,
     pairings: Vec<Pairing>,
     next: u16,
 }
@@ -34,16 +35,13 @@ impl Model for Import {
     ghost view = { λ it.
         record { number = it.number; pairings = it.pairings.items; next = it.next } };
 
-    ghost invariant = { λ it. (1 ≤ it.number) × (it.number ≤ 9_223_372_036_854_775_807)
-        × (length it.pairings.items ≤ 10_000) × (1 ≤ it.next) };
+    ghost invariant = { λ it. (length it.pairings.items ≤ 10_000) × (1 ≤ it.next) };
 }
 
 impl<S: Alter> Book<S> {
     /// Begins the import of these pairings under a number. It takes no memory. One that was stopped and is handed in
     /// again, with nothing else asked in between, ends as if it had never been stopped.
-    pub fn import(number: u64, pairings: Vec<Pairing>) -> Import
-        requires low { 1 ≤ number }
-        requires high { number ≤ 9_223_372_036_854_775_807 }
+    pub fn import(number: RequestNumber, pairings: Vec<Pairing>) -> Import
         requires count { length pairings.items ≤ 10_000 }
         ensures begun { let begun : Importing = record
             { number = number; pairings = pairings.items; next = 1 } in result ≡ begun }

@@ -23,7 +23,7 @@ ghost use Rattle.book.specs.Asking.{StepOutcome};
 ghost use Rattle.book.specs.Headline.{IsRefusal, SparesOthers};
 ghost use Rattle.store.specs.Typed.{HasUtf8};
 ghost use Rattle.store.specs.Loaded.{IsLoaded, IsNotLoaded};
-ghost use Rattle.store.specs.Shown.{Absence, IsShown};
+ghost use Rattle.part.specs.Shown.{Absence, IsShown, shown_part};
 ghost use Rattle.book.specs.Kept.{HasOne, HasTablesOf, IsAnswerBy, IsCausedElsewhere, IsDurablyAt, IsClean, Keeps, KeepsEither, HasFoundBook, StillHolds, is_store_fault, result_of};
 
 use crate::answer::{Answer, Run};
@@ -158,9 +158,9 @@ impl<S: Alter> Book<S> {
         self.failed
     }
 
-    /// Reads a roster with at least what the text of a member, of a member's limits, of a pairing or of the exceedances
-    /// needs: that text of it is the text of the state that the tables mean. No table is changed. After out of memory (91) the call may be
-    /// made again; after a fault of the store (90) each later call answers 90.
+    /// Reads a roster with just what the text of a member, of a member's limits, of a pairing, of the exceedances or of a list
+    /// needs: that text of it is the text of the state that the tables mean. No table is changed. After out of memory (91) the
+    /// call may be made again; after a fault of the store (90) each later call answers 90.
     pub fn show(&mut self, alloc: Global, what: &Show) -> Result<Roster, StoreFault>
         // Whether it has failed: a book that has answers 90 and does nothing.
         ensures failed { self.new.failed ≡ (self.old.failed || is_store_fault result) }
@@ -178,6 +178,10 @@ impl<S: Alter> Book<S> {
         ensures text { (s : State) → IsDurablyAt S.Store self.old s → IsClean S.Store self.new
             → IfOk result (λ roster. (shown : Result (List ℕ) Absence)
             → IsShown roster what.now shown ↔ IsShown s what.now shown) }
+
+        // The part of that state which its text needs, and no more.
+        ensures part { (s : State) → IsDurablyAt S.Store self.old s → IsClean S.Store self.new
+            → IfOk result (λ roster. roster ≡ shown_part s what.now) }
 
         // The state stays: a crash leaves it, and the tables mean it.
         ensures kept { (s : State) → IsDurablyAt S.Store self.old s
@@ -412,7 +416,7 @@ fn read_types(change: &Change)
     ensures key { IsKey change.now.key }
     ensures utf8 { HasUtf8 change.now.command }
 {
-    let _number = change.key.number();
+    let _number = change.key.number().get();
     let _part = change.key.part();
     match change.command.instruction() {
         Instruction::AddCrew(_, member) => {

@@ -38,6 +38,8 @@ GET /pairings/P1 HTTP/1.1|Host: x||
 HTTP/1.1 200 OK|Content-Type: text/plain; charset=utf-8|Content-Length: 148|Connection: close||PAIRING P1_captain C1_first officer -_1 plan report 2025-06-10T11:00Z release 2025-06-10T20:00Z_1.1 RB1 BOS 2025-06-10T12:00Z IAD 2025-06-10T19:30Z_
 GET /exceedances HTTP/1.1|Host: x||
 HTTP/1.1 200 OK|Content-Type: text/plain; charset=utf-8|Content-Length: 14|Connection: close||EXCEEDANCES 0_
+GET /json/exceedances HTTP/1.1|Host: x||
+HTTP/1.1 200 OK|Content-Type: application/json|Content-Length: 19|Connection: close||{\"exceedances\":[]}_
 HEAD /crew/C1 HTTP/1.1|Host: x||
 HTTP/1.1 200 OK|Content-Type: text/plain; charset=utf-8|Content-Length: 101|Connection: close||
 GET /crew/c9 HTTP/1.1|Host: x||

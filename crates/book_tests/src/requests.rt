@@ -2,6 +2,7 @@
 
 use crate::fault::Fault;
 use command::{Command, Key};
+use request::RequestNumber;
 use std::alloc::Global;
 use stored_json::read_canonical;
 
@@ -63,9 +64,10 @@ pub fn plan(
     )?)
 }
 
-/// The key of a request by its number, which is at least 1.
+/// The key of a request by its number; of 0 it is that of 1.
 pub fn key(number: u8) -> Key {
-    Key::new(u64::from(number.max(1)), 0)
+    let number = RequestNumber::new(u64::from(number)).unwrap_or(RequestNumber::FIRST);
+    Key::new(number, 0)
 }
 
 /// Requests, each of its number and the text of its command.

@@ -167,6 +167,16 @@ fn report(rt: HostRuntime) -> Result<(), Fail> {
     Ok(())
 }
 
+/// The bytes were counted of what Python's `json` makes of the values, each with a line end.
+#[test]
+fn report_json(rt: HostRuntime) -> Result<(), Fail> {
+    assert_eq!(rt;
+        text_of(&rt, Part::ReportJson)?.as_str(),
+        "15 reports, 8598 bytes"
+    );
+    Ok(())
+}
+
 #[test]
 fn schedule(rt: HostRuntime) -> Result<(), Fail> {
     assert_eq!(rt;

@@ -2,6 +2,7 @@
 
 use crate::fault::Fault;
 use command::{Command, Key};
+use request::RequestNumber;
 use std::alloc::Global;
 use stored_json::read_canonical;
 use time117::Zone;
@@ -117,9 +118,10 @@ pub const REQUESTS: [Line; 30] = [
 /// Three pairings and two ground duties, none at the time of another.
 pub const DUTIES: [Line; 5] = [(1, P1), (2, P2), (3, P3), (4, G1), (5, G2)];
 
-/// The key of a request by its number, which is at least 1.
+/// The key of a request by its number; of 0 it is that of 1.
 pub fn key(number: u8) -> Key {
-    Key::new(u64::from(number.max(1)), 0)
+    let number = RequestNumber::new(u64::from(number)).unwrap_or(RequestNumber::FIRST);
+    Key::new(number, 0)
 }
 
 /// The requests of lines.

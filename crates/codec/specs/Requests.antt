@@ -4,7 +4,7 @@ use Rattle.std.specs.Prelude.{if◌then◌else◌, ◌&&◌, nat_le, length}
 use Rattle.std.specs.Str.{is_utf8}
 use Rattle.serde_json.specs.Data.{Data}
 use Rattle.serde_json.specs.Find.{as_number, as_u64}
-use Rattle.duty.specs.Shape.{is_within}
+use Rattle.request.specs.Range.{is_in_range}
 use Rattle.command.specs.declared.instruction.Instruction.{Instruction}
 use Rattle.codec.specs.Bounds.{most_bytes}
 use Rattle.stored_json.specs.CommandJson.{and_then, field_of, read_object, read_instruction}
@@ -21,7 +21,7 @@ use Rattle.stored_json.specs.declared.field.JsonField.TheVariants.{Body, Number}
 abbrev pub read_number : Data → Option ℕ
 read_number d =
     with_part (option_and_then as_u64 (as_number d)) (λ number.
-    if is_within 1 9_223_372_036_854_775_807 number then Some number else None)
+    if is_in_range number then Some number else None)
 
 -- the object of a request's body; the body is UTF-8 of at most 1,048,576 bytes
 abbrev pub read_body : List ℕ → Result Data CodecFault

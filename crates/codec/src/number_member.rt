@@ -1,6 +1,6 @@
 //! The number of a request, as the member `number` of its body.
 //! Numbers out of range: `tests/texts.py`. Wrong bodies: `must-fail-more/`.
-use request_number::RequestNumber;
+use request::RequestNumber;
 use serde_json::Value;
 use std::alloc::Global;
 use std::marker::Model;

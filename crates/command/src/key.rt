@@ -4,15 +4,16 @@
 ghost use Rattle.std.specs.Prelude.{◌≡◌, ◌≤◌};
 ghost use Rattle.command.specs.Keys.{KeyParts};
 
+use request::RequestNumber;
 use std::alloc::Global;
 use std::marker::Model;
 use values::{MemoryFault, OrdKey, TryClone};
 
-/// What a command comes under: the number of its request, from 1 to 9,223,372,036,854,775,807, and its part. A single
+/// What a command comes under: the number of its request, and its part. A single
 /// command has part 0; part i of an import is its i-th pairing, of at most 10,000. Keys are ordered by number, then part.
 #[derive(Clone, Copy, Debug, PartialEq, Eq, PartialOrd, Ord)]
 pub struct Key {
-    number: u64,
+    number: RequestNumber,
     part: u16,
 }
 
@@ -24,17 +25,14 @@ impl Model for Key {
 
     ghost view = { λ k. record { number = k.number; part = k.part } };
 
-    ghost invariant = { λ k. (1 ≤ k.number) × (k.number ≤ 9_223_372_036_854_775_807)
-        × (k.part ≤ 10_000) };
+    ghost invariant = { λ k. k.part ≤ 10_000 };
 
     ghost inverse = { λ k. record { number = k.number; part = k.part } };
 }
 
 impl Key {
     /// Makes the key of a request's part.
-    pub fn new(number: u64, part: u16) -> Key
-        requires low { 1 ≤ number }
-        requires high { number ≤ 9_223_372_036_854_775_807 }
+    pub fn new(number: RequestNumber, part: u16) -> Key
         requires part { part ≤ 10_000 }
         ensures { let key : KeyParts = record { number = number; part = part } in result ≡ key }
     {
@@ -42,10 +40,8 @@ impl Key {
     }
 
     /// Returns the number of the request.
-    pub fn number(self) -> u64
-        ensures number { result ≡ self.number }
-        ensures low { 1 ≤ result }
-        ensures high { result ≤ 9_223_372_036_854_775_807 }
+    pub fn number(self) -> RequestNumber
+        ensures { result ≡ self.number }
     {
         self.number
     }

@@ -1,45 +1,79 @@
--- A line of a plain word and then flags.
-use Rattle.std.proofs.Common.{◌≡◌, ◌∙◌, true, false, refl, ap, List, [], ◌∷◌, Option}
+-- A line of plain words that meet no fault, and then flags.
+use Rattle.std.proofs.Common.{◌≡◌, ◌∙◌, ◌++◌, true, false, refl, ap, List, [], ◌∷◌, Option}
 use Rattle.std.specs.Prelude.{fold}
 use Rattle.std.specs.List.{list_all}
 use Rattle.clap.proofs.FaultLemmas.{past}
+use Rattle.clap.proofs.WalkLemmas.{both}
 use Rattle.clap.specs.Walk.{Text, Walk, finished, nothing_held, rows_after, walk_from, walked}
 use Rattle.clap.specs.Simple.{Shape}
 use Rattle.clap.specs.Faults.{level_fault, walk_fault}
-use Rattle.console.proofs.PlainLine.{found}
-use Rattle.console.proofs.PlainWords.{GoesOn, fault_at, level_is, plain_fault, plain_walked, reads_flags, taken, taken_fault}
+use Rattle.console.proofs.PlainLine.{found, leaf}
+use Rattle.console.proofs.PlainWords.{GoesOn, fault_at, faults, goes_on, level_is, plain_fault, plain_walked, reads_flags}
+use Rattle.console.proofs.PlainWords.{taken, taken_fault}
+use Rattle.console.proofs.WalkKeeps.{none_of}
 use Rattle.console.specs.CommandLine.{Value}
 use Rattle.console.specs.Plain.{is_plain}
 
 abbrev pub start : Walk
 start = walk_from nothing_held
 
-begins : GoesOn start
+pub begins : GoesOn start
 begins = record { flags = refl; words = refl }
 
-module _ (s : Shape) (reads : list_all reads_flags s.rules ≡ true) (word : Text) (plain : is_plain word ≡ true) (flags : List Text) where
-  abbrev pub at_word : Walk
-  at_word = taken s start word
+-- the walk at the end of these words
+abbrev pub at_words : Shape → List Text → Walk
+at_words s words = fold (taken s) start words
 
-  to_word : ◌≡◌ {A = Walk} (walked s.rules [] start word) at_word
-  to_word = plain_walked s reads start word plain begins
+module _ (s : Shape) (reads : list_all reads_flags s.rules ≡ true) where
+  walked_to : (w : Walk) (words rest : List Text) → list_all is_plain words ≡ true → GoesOn w
+      → ◌≡◌ {A = Walk} (fold (walked s.rules []) w (words ++ rest)) (fold (walked s.rules []) (fold (taken s) w words) rest)
+  walked_to w [] rest plain on = refl
+  walked_to w (word ∷ more) rest plain on =
+      let p = both (is_plain word) _ plain in
+      ap (λ (x : Walk). fold (walked s.rules []) x (more ++ rest)) (plain_walked s reads w word p.0 on)
+      ∙ walked_to (taken s w word) more rest p.1 (goes_on s reads w word on)
 
-  -- the walk over the flags
-  abbrev pub at_end : Walk
-  at_end = fold (walked s.rules []) at_word flags
-
-  line_ends : ◌≡◌ {A = Walk} (fold (walked s.rules []) start (word ∷ flags)) at_end
-  line_ends = ap (λ (w : Walk). fold (walked s.rules []) w flags) to_word
-
-  line_passes : taken_fault s start word ≡ [] → walk_fault s [] at_word flags ≡ [] → walk_fault s [] start (word ∷ flags) ≡ []
+  passed_to : (w : Walk) (words rest : List Text) → list_all is_plain words ≡ true → GoesOn w → faults s w words ≡ []
+      → walk_fault s [] w (words ++ rest) ≡ walk_fault s [] (fold (taken s) w words) rest
   unfolding walk_fault
-  line_passes none pass =
-      past _ _ (plain_fault s reads start word plain begins ∙ none)
-      ∙ (ap (λ (w : Walk). walk_fault s [] w flags) to_word ∙ pass)
+  passed_to w [] rest plain on none = refl
+  passed_to w (word ∷ more) rest plain on none =
+      let p = both (is_plain word) _ plain in
+      let q = none_of (taken_fault s w word) (faults s (taken s w word) more) none in
+      past _ _ (plain_fault s reads w word p.0 on ∙ q.0)
+      ∙ (ap (λ (x : Walk). walk_fault s [] x (more ++ rest)) (plain_walked s reads w word p.0 on)
+      ∙ passed_to (taken s w word) more rest p.1 (goes_on s reads w word on) q.1)
 
-  pub flag_level : taken_fault s start word ≡ [] → walk_fault s [] at_word flags ≡ [] → fault_at s [] at_end.held ≡ [] → level_fault s [] nothing_held (word ∷ flags) false [] ≡ []
-  flag_level none pass ends = level_is s (word ∷ flags) [] at_end (line_passes none pass) line_ends ∙ ends
+  module _ (words rest : List Text) (plain : list_all is_plain words ≡ true) where
+    -- where the line is after the words and the rest of it
+    pub words_walked : ◌≡◌ {A = Walk} (fold (walked s.rules []) start (words ++ rest))
+        (fold (walked s.rules []) (at_words s words) rest)
+    words_walked = walked_to start words rest plain begins
 
-  pub flag_found : (name : Text) (values : List (Option Value)) → found name (finished s.rules at_end.held) ≡ values
-      → found name (rows_after s.rules [] (word ∷ flags)) ≡ values
-  flag_found name values is = ap (λ (w : Walk). found name (finished s.rules w.held)) line_ends ∙ is
+    -- what the line comes to is what the rest of it comes to
+    pub words_pass : faults s start words ≡ [] → walk_fault s [] start (words ++ rest) ≡ walk_fault s [] (at_words s words) rest
+    words_pass none = passed_to start words rest plain begins none
+
+-- After these words and flags the line of the subcommand of this name met no fault, and these values are found.
+pub record Reads (name : Text) (words flags : List Text) (values : List (Option Value)) : Type 0 where
+  pub words_fault : faults (leaf name) start words ≡ []
+  pub flags_fault : walk_fault (leaf name) [] (at_words (leaf name) words) flags ≡ []
+  pub end_fault :
+      fault_at (leaf name) [] (fold (walked (leaf name).rules []) (at_words (leaf name) words) flags).held ≡ []
+  pub values_found : found name
+      (finished (leaf name).rules (fold (walked (leaf name).rules []) (at_words (leaf name) words) flags).held)
+      ≡ values
+
+module _ (name : Text) (reads : list_all reads_flags (leaf name).rules ≡ true) (words : List Text)
+    (plain : list_all is_plain words ≡ true) (flags : List Text) (values : List (Option Value))
+    (is : Reads name words flags values) where
+  pub flag_level : level_fault (leaf name) [] nothing_held (words ++ flags) false [] ≡ []
+  flag_level =
+      level_is (leaf name) (words ++ flags) [] _ (words_pass (leaf name) reads words flags plain is.words_fault ∙ is.flags_fault)
+      (words_walked (leaf name) reads words flags plain)
+      ∙ is.end_fault
+
+  pub flag_found : found name (rows_after (leaf name).rules [] (words ++ flags)) ≡ values
+  flag_found =
+      ap (λ (w : Walk). found name (finished (leaf name).rules w.held)) (words_walked (leaf name) reads words flags plain)
+      ∙ is.values_found

@@ -2,7 +2,6 @@ pub mod Checked
 pub mod Commands
 pub mod FlagLine
 pub mod DoLine
-pub mod PairingsLine
 pub mod DutyLine
 pub mod Entered
 pub mod Filled
@@ -13,5 +12,6 @@ pub mod NumberRead
 pub mod OptionLine
 pub mod PlainLine
 pub mod PlainWords
+pub mod ReportLine
 pub mod ServeLine
 pub mod WalkKeeps

@@ -8,7 +8,7 @@ use Rattle.clap.specs.Kinds.{Kinds, or_else}
 use Rattle.clap.specs.Faults.{level_fault}
 use Rattle.clap.specs.declared.error.kind.ErrorKind.TheVariants.{ValueValidation}
 use Rattle.console.proofs.NumberRead.{is_number}
-use Rattle.console.proofs.OptionLine.{option_level, option_rows}
+use Rattle.console.proofs.OptionLine.{no_flags, option_level, option_rows}
 use Rattle.console.proofs.PlainLine.{found, leaf}
 use Rattle.console.proofs.PlainWords.{GoesOn, row, taken}
 use Rattle.console.specs.CommandLine.{last_port, most_connections, number_up_to, one, whole}
@@ -59,11 +59,14 @@ module _ (file port count : Text) (plain : list_all is_plain (file ∷ port ∷ 
 
   pub serve_level : level_fault serve [] nothing_held given false []
       ≡ both_kinds (is_number last_port port) (is_number most_connections count)
-  serve_level = option_level serve refl (file ∷ port ∷ []) flag count plain count_plain refl at_flag to_flag on
+  serve_level =
+      option_level serve refl (file ∷ port ∷ []) flag count [] plain count_plain refl at_flag to_flag on
+      (no_flags serve (taken serve at_flag count))
 
   pub serve_found : found (codes "serve") (rows_after serve.rules [] given)
       ≡ Some (one file) ∷ option_map whole (number_up_to last_port port)
       ∷ option_map whole (number_up_to most_connections count) ∷ []
   serve_found =
       ap (λ (rows : List Row). found (codes "serve") rows)
-      (option_rows serve refl (file ∷ port ∷ []) flag count plain count_plain refl at_flag to_flag on)
+      (option_rows serve refl (file ∷ port ∷ []) flag count [] plain count_plain refl at_flag to_flag on
+      (no_flags serve (taken serve at_flag count)))

@@ -15,10 +15,16 @@ use Rattle.clap.specs.declared.builder.arg.Arg.{Arg}
 use Rattle.clap.specs.declared.builder.command.Command.{Command}
 use Rattle.clap.specs.declared.builder.command.Command.TheViews.{out-Command}
 use Rattle.clap.specs.declared.builder.value_parser.ValueParser.TheVariants.{Unsigned}
+use Rattle.request.specs.Subjects.{subject_bytes}
+use Rattle.request.specs.declared.form.Form.{Form}
+use Rattle.request.specs.declared.form.Form.TheVariants as form
+use Rattle.request.specs.declared.subject.Listed.{Listed}
+use Rattle.request.specs.declared.subject.Listed.TheVariants.{All, Open}
+use Rattle.request.specs.declared.subject.Subject.{Subject}
+use Rattle.request.specs.declared.subject.Subject.TheVariants.{Crew, Limits, Pairing, Exceedances}
+use Rattle.request.specs.declared.subject.Subject.TheVariants.{Members, Pairings}
 use Rattle.console.specs.declared.actions.Action.{Action}
-use Rattle.console.specs.declared.actions.Action.TheVariants.{Duty, Init, Do, Import}
-use Rattle.console.specs.declared.actions.Action.TheVariants.{Roster, Pairing, Limits, Exceedances}
-use Rattle.console.specs.declared.actions.Action.TheVariants.{Members, Pairings, Serve}
+use Rattle.console.specs.declared.actions.Action.TheVariants.{Duty, Init, Do, Import, Report, Serve}
 
 -- the greatest number of a request
 abbrev pub last_number : ℕ
@@ -51,6 +57,10 @@ pub data Argument : Type 0 where
 abbrev pub connections : Argument
 connections = option_number most_connections (codes "1000000") (codes "connections")
 
+-- `--json`, which each report takes
+abbrev pub json_flag : Argument
+json_flag = flag (codes "json")
+
 -- the subcommands, each with its arguments in order
 abbrev pub subcommand_table : List (Text × List Argument)
 subcommand_table =
@@ -58,15 +68,15 @@ subcommand_table =
     ∷ (codes "init", a_text (codes "file") ∷ a_text (codes "zone") ∷ [])
     ∷ (codes "do", a_text (codes "file") ∷ flag (codes "dry-run") ∷ flag (codes "lines") ∷ [])
     ∷ (codes "import", a_text (codes "file") ∷ a_number last_number (codes "number") ∷ [])
-    ∷ (codes "roster", a_text (codes "file") ∷ a_text (codes "crew") ∷ [])
-    ∷ (codes "pairing", a_text (codes "file") ∷ a_text (codes "pairing") ∷ [])
+    ∷ (codes "roster", a_text (codes "file") ∷ a_text (codes "crew") ∷ json_flag ∷ [])
+    ∷ (codes "pairing", a_text (codes "file") ∷ a_text (codes "pairing") ∷ json_flag ∷ [])
     ∷ (
       codes "limits",
-      a_text (codes "file") ∷ a_text (codes "crew") ∷ option_text (codes "with") ∷ [],
+      a_text (codes "file") ∷ a_text (codes "crew") ∷ option_text (codes "with") ∷ json_flag ∷ [],
     )
-    ∷ (codes "exceedances", a_text (codes "file") ∷ [])
-    ∷ (codes "members", a_text (codes "file") ∷ [])
-    ∷ (codes "pairings", a_text (codes "file") ∷ flag (codes "open") ∷ [])
+    ∷ (codes "exceedances", a_text (codes "file") ∷ json_flag ∷ [])
+    ∷ (codes "members", a_text (codes "file") ∷ json_flag ∷ [])
+    ∷ (codes "pairings", a_text (codes "file") ∷ flag (codes "open") ∷ json_flag ∷ [])
     ∷ (codes "serve", a_text (codes "file") ∷ a_number last_port (codes "port") ∷ connections ∷ [])
     ∷ []
 
@@ -195,6 +205,31 @@ value_of rows (option_number most default id) = option_map whole (number_found m
 value_of rows (option_text id) = Some (maybe (first_of id rows))
 value_of rows (flag id) = Some (given (is_on id rows))
 
+-- whether only those pairings are listed that have a free seat
+abbrev pub is_only_open : Listed → Bool
+is_only_open All = false
+is_only_open Open = true
+
+-- whether a report is asked for in JSON
+abbrev pub is_json : Form → Bool
+is_json form.Text = false
+is_json form.Json = true
+
+-- the subcommand of a report from this file in this form, and what is given for each of its
+-- arguments
+abbrev pub call_of_report : Text → Subject Text Text → Form → Text × List Value
+call_of_report file (Crew id) in_form =
+    (codes "roster", one file ∷ one id ∷ given (is_json in_form) ∷ [])
+call_of_report file (Pairing id) in_form =
+    (codes "pairing", one file ∷ one id ∷ given (is_json in_form) ∷ [])
+call_of_report file (Limits id with) in_form =
+    (codes "limits", one file ∷ one id ∷ maybe with ∷ given (is_json in_form) ∷ [])
+call_of_report file Exceedances in_form =
+    (codes "exceedances", one file ∷ given (is_json in_form) ∷ [])
+call_of_report file Members in_form = (codes "members", one file ∷ given (is_json in_form) ∷ [])
+call_of_report file (Pairings which) in_form =
+    (codes "pairings", one file ∷ given (is_only_open which) ∷ given (is_json in_form) ∷ [])
+
 -- the subcommand of an action, and what is given for each of its arguments
 abbrev pub call_of : Action → Text × List Value
 call_of (Duty zone report times) = (
@@ -205,17 +240,8 @@ call_of (Init file zone) = (codes "init", one (string_bytes file) ∷ one (strin
 call_of (Do file dry_run lines) =
     (codes "do", one (string_bytes file) ∷ given dry_run ∷ given lines ∷ [])
 call_of (Import file number) = (codes "import", one (string_bytes file) ∷ whole number ∷ [])
-call_of (Roster file crew) =
-    (codes "roster", one (string_bytes file) ∷ one (string_bytes crew) ∷ [])
-call_of (Pairing file id) = (codes "pairing", one (string_bytes file) ∷ one (string_bytes id) ∷ [])
-call_of (Limits file crew id) = (
-  codes "limits",
-  one (string_bytes file) ∷ one (string_bytes crew) ∷ maybe (option_map string_bytes id) ∷ [],
-)
-call_of (Exceedances file) = (codes "exceedances", one (string_bytes file) ∷ [])
-call_of (Members file) = (codes "members", one (string_bytes file) ∷ [])
-call_of (Pairings file only_open) =
-    (codes "pairings", one (string_bytes file) ∷ given only_open ∷ [])
+call_of (Report file subject in_form) =
+    call_of_report (string_bytes file) (subject_bytes subject) in_form
 call_of (Serve file port count) =
     (codes "serve", one (string_bytes file) ∷ whole port ∷ whole count ∷ [])
 

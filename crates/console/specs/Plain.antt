@@ -2,9 +2,12 @@
 use Rattle.std.specs.Prelude.{◌≡◌, ◌==◌, ◌++◌, ℕ, Bool, true, not, List, [], ◌∷◌, Option, Some}
 use Rattle.std.specs.Prelude.{None, codes, if◌then◌else◌}
 use Rattle.clap.specs.Walk.{Text}
-use Rattle.console.specs.CommandLine.{call_of, given, maybe, most_connections, number_up_to, one}
-use Rattle.console.specs.CommandLine.{several, whole}
+use Rattle.console.specs.CommandLine.{call_of, call_of_report, given, is_json, is_only_open}
+use Rattle.console.specs.CommandLine.{most_connections, number_up_to, one, several, whole}
 use Rattle.console.specs.declared.actions.Action.{Action}
+use Rattle.request.specs.declared.form.Form.{Form}
+use Rattle.request.specs.declared.subject.Listed.{Listed}
+use Rattle.request.specs.declared.subject.Subject.{Subject}
 
 -- whether a word doesn't begin with a hyphen (45)
 abbrev pub is_plain : Text → Bool
@@ -51,54 +54,45 @@ import_words file number = codes "import" ∷ file ∷ number ∷ []
 abbrev pub IsImport : Text → ℕ → Action → Type 0
 IsImport file number a = call_of a ≡ (codes "import", one file ∷ whole number ∷ [])
 
--- the words of `roster FILE CREW`
-abbrev pub roster_words : Text → Text → List Text
-roster_words file crew = codes "roster" ∷ file ∷ crew ∷ []
+-- `--json`, if a report is asked for in JSON
+abbrev pub form_words : Form → List Text
+form_words form = word_if (is_json form) (codes "--json")
 
--- the action is `roster` with exactly these arguments
-abbrev pub IsRoster : Text → Text → Action → Type 0
-IsRoster file crew a = call_of a ≡ (codes "roster", one file ∷ one crew ∷ [])
+-- the words of `roster FILE CREW`, and then `--json`, if it is asked for in JSON
+abbrev pub roster_words : Text → Text → Form → List Text
+roster_words file crew form = codes "roster" ∷ file ∷ crew ∷ form_words form
 
--- the words of `pairing FILE PAIRING`
-abbrev pub pairing_words : Text → Text → List Text
-pairing_words file id = codes "pairing" ∷ file ∷ id ∷ []
+-- the words of `pairing FILE PAIRING`, and then `--json`, if it is asked for in JSON
+abbrev pub pairing_words : Text → Text → Form → List Text
+pairing_words file id form = codes "pairing" ∷ file ∷ id ∷ form_words form
 
--- the action is `pairing` with exactly these arguments
-abbrev pub IsPairing : Text → Text → Action → Type 0
-IsPairing file id a = call_of a ≡ (codes "pairing", one file ∷ one id ∷ [])
+-- the words of `limits FILE CREW`, of `--with PAIRING` if a pairing is given, and then `--json`, if
+-- the limits are asked for in JSON
+abbrev pub limits_words : Text → Text → Option Text → Form → List Text
+limits_words file crew None form = codes "limits" ∷ file ∷ crew ∷ form_words form
+limits_words file crew (Some id) form =
+    codes "limits" ∷ file ∷ crew ∷ codes "--with" ∷ id ∷ form_words form
 
--- the words of `limits FILE CREW`, and of `--with PAIRING` if a pairing is given
-abbrev pub limits_words : Text → Text → Option Text → List Text
-limits_words file crew None = codes "limits" ∷ file ∷ crew ∷ []
-limits_words file crew (Some id) = codes "limits" ∷ file ∷ crew ∷ codes "--with" ∷ id ∷ []
+-- the words of `exceedances FILE`, and then `--json`, if they are asked for in JSON
+abbrev pub exceedances_words : Text → Form → List Text
+exceedances_words file form = codes "exceedances" ∷ file ∷ form_words form
 
--- the action is `limits` with exactly these arguments
-abbrev pub IsLimits : Text → Text → Option Text → Action → Type 0
-IsLimits file crew id a = call_of a ≡ (codes "limits", one file ∷ one crew ∷ maybe id ∷ [])
+-- the words of `members FILE`, and then `--json`, if they are asked for in JSON
+abbrev pub members_words : Text → Form → List Text
+members_words file form = codes "members" ∷ file ∷ form_words form
 
--- the words of `exceedances FILE`
-abbrev pub exceedances_words : Text → List Text
-exceedances_words file = codes "exceedances" ∷ file ∷ []
+-- the flags of `pairings`: `--open`, if those with a free seat alone are asked for, and then
+-- `--json`, if they are asked for in JSON
+abbrev pub pairings_flags : Listed → Form → List Text
+pairings_flags which form = word_if (is_only_open which) (codes "--open") ++ form_words form
 
--- the action is `exceedances` with exactly this argument
-abbrev pub IsExceedances : Text → Action → Type 0
-IsExceedances file a = call_of a ≡ (codes "exceedances", one file ∷ [])
+-- the words of `pairings FILE`, and then the flags that are given
+abbrev pub pairings_words : Text → Listed → Form → List Text
+pairings_words file which form = codes "pairings" ∷ file ∷ pairings_flags which form
 
--- the words of `members FILE`
-abbrev pub members_words : Text → List Text
-members_words file = codes "members" ∷ file ∷ []
-
--- the action is `members` with exactly this argument
-abbrev pub IsMembers : Text → Action → Type 0
-IsMembers file a = call_of a ≡ (codes "members", one file ∷ [])
-
--- the words of `pairings FILE`, and then `--open`, if it is given
-abbrev pub pairings_words : Text → Bool → List Text
-pairings_words file only_open = codes "pairings" ∷ file ∷ word_if only_open (codes "--open")
-
--- the action is `pairings` with exactly these arguments
-abbrev pub IsPairings : Text → Bool → Action → Type 0
-IsPairings file only_open a = call_of a ≡ (codes "pairings", one file ∷ given only_open ∷ [])
+-- the action is a report from this file on exactly this subject, in exactly this form
+abbrev pub IsReport : Text → Subject Text Text → Form → Action → Type 0
+IsReport file subject form a = call_of a ≡ call_of_report file subject form
 
 -- the words of `serve FILE PORT`, and of `--connections N` if N is given
 abbrev pub serve_words : Text → Text → Option Text → List Text

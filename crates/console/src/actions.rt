@@ -1,6 +1,6 @@
 //! What the program is asked to do.
 
-use request_number::RequestNumber;
+use request::{Form, RequestNumber, Subject};
 
 /// What a command line asks for.
 #[derive(Debug, PartialEq, Eq, Drop)]
@@ -37,45 +37,15 @@ pub enum Action {
         /// The number of the request that the pairings are parts of.
         number: RequestNumber,
     },
-    /// `roster FILE CREW`: print a member's roster.
-    Roster {
+    /// `roster FILE CREW`, `pairing FILE PAIRING`, `limits FILE CREW --with PAIRING`, `exceedances FILE`, `members FILE` or
+    /// `pairings FILE --open`, each also with `--json`: print a report.
+    Report {
         /// The path of the book's file.
         file: String,
-        /// The id of the member.
-        crew: String,
-    },
-    /// `pairing FILE PAIRING`: print a pairing, and who flies it.
-    Pairing {
-        /// The path of the book's file.
-        file: String,
-        /// The id of the pairing.
-        pairing: String,
-    },
-    /// `limits FILE CREW --with PAIRING`: print how near a member's duties are to each of the eight limits.
-    Limits {
-        /// The path of the book's file.
-        file: String,
-        /// The id of the member.
-        crew: String,
-        /// The id of a pairing that is judged as if the member held it, if there is one.
-        with: Option<String>,
-    },
-    /// `exceedances FILE`: print the exceedances.
-    Exceedances {
-        /// The path of the book's file.
-        file: String,
-    },
-    /// `members FILE`: print the members of the crew.
-    Members {
-        /// The path of the book's file.
-        file: String,
-    },
-    /// `pairings FILE --open`: print the pairings, a line each.
-    Pairings {
-        /// The path of the book's file.
-        file: String,
-        /// Whether only those with a free seat are printed.
-        only_open: bool,
+        /// What the report is asked of.
+        subject: Subject<String, String>,
+        /// The form of the report: JSON, if `--json` is given.
+        form: Form,
     },
     /// `serve FILE PORT --connections N`: answer requests of HTTP on 127.0.0.1.
     Serve {

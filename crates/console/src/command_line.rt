@@ -10,15 +10,18 @@ ghost use Rattle.clap.specs.Words.{rule_of, subcommand_of, subcommand_rows_of};
 ghost use Rattle.clap.specs.declared.error.kind.ErrorKind.TheVariants.{OutOfMemory, ValueValidation};
 ghost use Rattle.console.specs.Arguments.{HasAll, HasArguments, HasFlag, HasWholeNumber};
 ghost use Rattle.console.specs.CommandLine.{AreArguments, AreSubcommands, IsCommandOfApp, IsActionOf, IsFollowedBy, arguments_of, bare, command_line};
-ghost use Rattle.console.specs.CommandLine.{connections, last_number, last_port, is_on, most_connections, number_found, number_up_to, optional, optional_flag};
-ghost use Rattle.console.specs.CommandLine.{request_number, rule, subcommand, subcommand_table, wanted, wanted_number};
-ghost use Rattle.console.specs.Plain.{IsDo, IsDuty, IsExceedances, IsImport, IsInit, IsLimits, IsMembers, IsPairing, IsPairings, IsRoster, IsServe};
+ghost use Rattle.console.specs.CommandLine.{connections, last_number, last_port, is_json, is_on, is_only_open, most_connections, number_found};
+ghost use Rattle.console.specs.CommandLine.{number_up_to, optional, optional_flag, request_number, rule, subcommand, subcommand_table, wanted, wanted_number};
+ghost use Rattle.console.specs.Plain.{IsDo, IsDuty, IsImport, IsInit, IsReport, IsServe};
 ghost use Rattle.console.specs.Plain.{asked_connections, do_words, duty_words, exceedances_words, import_words, init_words};
 ghost use Rattle.console.specs.Plain.{is_plain, limits_words, members_words, pairing_words, pairings_words, roster_words, serve_words};
+ghost use Rattle.request.specs.declared.form.Form.{Form};
+ghost use Rattle.request.specs.declared.subject.Listed.{Listed};
+ghost use Rattle.request.specs.declared.subject.Subject.TheVariants as of;
 
 use crate::actions::Action;
 use clap::{Arg, ArgAction, ArgMatches, Command, Error, value_parser};
-use request_number::RequestNumber;
+use request::{Form, Listed, RequestNumber, Subject};
 use std::alloc::{AllocError, Global};
 
 const ARGUMENTS: &str = "\
@@ -131,6 +134,9 @@ HOME, and then the duties in order of time: 'plan' is as planned, 'actual' as
 flown, 'outside' as flown for another certificate holder. Times are UTC. Lengths
 are hours and minutes.
 
+With --json it is one object of JSON: the duties by kind and id, each period
+with plan and actual, the lengths in whole minutes, and the zone of the base.
+
 Exit status: 0 done, 1 there is no such member, 2 a mistake in the command line,
 3 there is no book in the file, or the file, memory or the output fails";
 
@@ -139,7 +145,8 @@ Example:
   rosterbook pairing roster.db B101
 
 Prints who holds the seats ('-' if nobody does), and then the periods with
-their segments: 'plan' is as planned, 'actual' as flown. Times are UTC.
+their segments: 'plan' is as planned, 'actual' as flown. Times are UTC. With
+--json it is one object of JSON, with the plan and the actual of each period.
 
 Exit status: 0 done, 1 there is no such pairing, 2 a mistake in the command
 line, 3 there is no book in the file, or the file, memory or the output fails";
@@ -160,6 +167,8 @@ member held it, and nothing is kept. If the member doesn't hold it, the lines
 with 'exceeds' are the sections for which an assignment of it would be refused
 with 12 Limits.
 
+With --json it is one object of JSON, and lengths are whole minutes.
+
 Exit status: 0 done, also where a limit is exceeded, 1 there is no such member
 or pairing, 2 a mistake in the command line, 3 there is no book in the file, or
 the file, memory or the output fails";
@@ -170,7 +179,8 @@ Example:
 
 Prints how many there are, and a line for each: the number of the request that
 recorded it, the member, the section of 14 CFR Part 117, and the period of the
-pairing, or 'outside' and the id of what was flown for another holder.
+pairing, or 'outside' and the id of what was flown for another holder. With
+--json it is one object of JSON.
 
 Exit status: 0 done, 2 a mistake in the command line, 3 there is no book in the
 file, or the file, memory or the output fails";
@@ -180,7 +190,8 @@ Example:
   rosterbook members roster.db
 
 Prints how many members there are, and a line for each: id, seat, base and name,
-in the order of the ids.
+in the order of the ids. With --json it is one object of JSON, which has the
+bases and their zones too.
 
 Exit status: 0 done, 2 a mistake in the command line, 3 there is no book in the
 file, or the file, memory or the output fails";
@@ -193,6 +204,9 @@ Prints how many pairings there are, and a line for each: id, first report, last
 release, 'flown' if a period of it has flown times and else 'plan', captain and
 first officer ('-' for a free seat), in the order of first reports. With --open
 only those with a free seat are printed and counted. Times are UTC.
+
+With --json it is one object of JSON, with the periods of each pairing, in the
+order of the ids.
 
 Exit status: 0 done, 2 a mistake in the command line, 3 there is no book in the
 file, or the file, memory or the output fails";
@@ -237,6 +251,8 @@ Answer one command a line of the input, one reply a line;
 empty lines are skipped";
 
 const OPEN_HELP: &str = "Print the pairings with a free seat alone";
+
+const JSON_HELP: &str = "Print one object of JSON, for programs (see FORMATS.md)";
 
 const PORT_HELP: &str = "\
 Port of 127.0.0.1 to listen on,
@@ -283,24 +299,31 @@ pub fn action(alloc: Global, words: &[&str]) -> Result<Action, Error>
         → texts words.now ≡ import_words file number
         → list_all is_plain (file ∷ number ∷ []) ≡ true → request_number number ≡ Some n
         → MatchResult result (IsImport file n) (λ e. kind_of e ≡ OutOfMemory) }
-    ensures roster { (file crew : Text) → texts words.now ≡ roster_words file crew
+    ensures roster { (file crew : Text) (form : Form)
+        → texts words.now ≡ roster_words file crew form
         → list_all is_plain (file ∷ crew ∷ []) ≡ true
-        → MatchResult result (IsRoster file crew) (λ e. kind_of e ≡ OutOfMemory) }
-    ensures pairing { (file id : Text) → texts words.now ≡ pairing_words file id
+        → MatchResult result (IsReport file (of.Crew crew) form) (λ e. kind_of e ≡ OutOfMemory) }
+    ensures pairing { (file id : Text) (form : Form)
+        → texts words.now ≡ pairing_words file id form
         → list_all is_plain (file ∷ id ∷ []) ≡ true
-        → MatchResult result (IsPairing file id) (λ e. kind_of e ≡ OutOfMemory) }
-    ensures limits { (file crew : Text) (id : Option Text)
-        → texts words.now ≡ limits_words file crew id
+        → MatchResult result (IsReport file (of.Pairing id) form)
+        (λ e. kind_of e ≡ OutOfMemory) }
+    ensures limits { (file crew : Text) (id : Option Text) (form : Form)
+        → texts words.now ≡ limits_words file crew id form
         → list_all is_plain (file ∷ crew ∷ []) ≡ true → option_map_or is_plain id true ≡ true
-        → MatchResult result (IsLimits file crew id) (λ e. kind_of e ≡ OutOfMemory) }
-    ensures exceedances { (file : Text) → texts words.now ≡ exceedances_words file
-        → is_plain file ≡ true
-        → MatchResult result (IsExceedances file) (λ e. kind_of e ≡ OutOfMemory) }
-    ensures members { (file : Text) → texts words.now ≡ members_words file → is_plain file ≡ true
-        → MatchResult result (IsMembers file) (λ e. kind_of e ≡ OutOfMemory) }
-    ensures pairings { (file : Text) (only_open : Bool)
-        → texts words.now ≡ pairings_words file only_open → is_plain file ≡ true
-        → MatchResult result (IsPairings file only_open) (λ e. kind_of e ≡ OutOfMemory) }
+        → MatchResult result (IsReport file (of.Limits crew id) form)
+        (λ e. kind_of e ≡ OutOfMemory) }
+    ensures exceedances { (file : Text) (form : Form)
+        → texts words.now ≡ exceedances_words file form → is_plain file ≡ true
+        → MatchResult result (IsReport file of.Exceedances form)
+        (λ e. kind_of e ≡ OutOfMemory) }
+    ensures members { (file : Text) (form : Form)
+        → texts words.now ≡ members_words file form → is_plain file ≡ true
+        → MatchResult result (IsReport file of.Members form) (λ e. kind_of e ≡ OutOfMemory) }
+    ensures pairings { (file : Text) (which : Listed) (form : Form)
+        → texts words.now ≡ pairings_words file which form → is_plain file ≡ true
+        → MatchResult result (IsReport file (of.Pairings which) form)
+        (λ e. kind_of e ≡ OutOfMemory) }
     ensures serve { (file port : Text) (count : Option Text) (p n : ℕ)
         → texts words.now ≡ serve_words file port count
         → list_all is_plain (file ∷ port ∷ []) ≡ true → option_map_or is_plain count true ≡ true
@@ -454,7 +477,8 @@ fn add_roster<'a>(alloc: Global, list: &mut Vec<Command<'a>>) -> Result<(), Allo
     let about = "Print a member's roster: each duty, as planned or as flown";
     let file = positional(alloc, "file", "FILE").help(FILE_HELP);
     let crew = positional(alloc, "crew", "CREW").help(CREW_HELP);
-    let arguments = vec![in alloc; file, crew]?;
+    let json = json_flag(alloc);
+    let arguments = vec![in alloc; file, crew, json]?;
     add_subcommand(alloc, list, "roster", about, ROSTER_EXAMPLE, arguments)
 }
 
@@ -466,7 +490,8 @@ fn add_pairing<'a>(alloc: Global, list: &mut Vec<Command<'a>>) -> Result<(), All
     let about = "Print a pairing: who flies it, its periods and segments";
     let file = positional(alloc, "file", "FILE").help(FILE_HELP);
     let id = positional(alloc, "pairing", "PAIRING").help(PAIRING_HELP);
-    let arguments = vec![in alloc; file, id]?;
+    let json = json_flag(alloc);
+    let arguments = vec![in alloc; file, id, json]?;
     add_subcommand(alloc, list, "pairing", about, PAIRING_EXAMPLE, arguments)
 }
 
@@ -479,7 +504,8 @@ fn add_limits<'a>(alloc: Global, list: &mut Vec<Command<'a>>) -> Result<(), Allo
     let file = positional(alloc, "file", "FILE").help(FILE_HELP);
     let crew = positional(alloc, "crew", "CREW").help(CREW_HELP);
     let with = with_option(alloc);
-    let arguments = vec![in alloc; file, crew, with]?;
+    let json = json_flag(alloc);
+    let arguments = vec![in alloc; file, crew, with, json]?;
     add_subcommand(alloc, list, "limits", about, LIMITS_EXAMPLE, arguments)
 }
 
@@ -490,7 +516,8 @@ fn add_exceedances<'a>(alloc: Global, list: &mut Vec<Command<'a>>) -> Result<(),
 {
     let about = "Print which flown duties went over a limit, and over which";
     let file = positional(alloc, "file", "FILE").help(FILE_HELP);
-    let arguments = vec![in alloc; file]?;
+    let json = json_flag(alloc);
+    let arguments = vec![in alloc; file, json]?;
     add_subcommand(
         alloc,
         list,
@@ -508,7 +535,8 @@ fn add_members<'a>(alloc: Global, list: &mut Vec<Command<'a>>) -> Result<(), All
 {
     let about = "Print the members of the crew";
     let file = positional(alloc, "file", "FILE").help(FILE_HELP);
-    let arguments = vec![in alloc; file]?;
+    let json = json_flag(alloc);
+    let arguments = vec![in alloc; file, json]?;
     add_subcommand(alloc, list, "members", about, MEMBERS_EXAMPLE, arguments)
 }
 
@@ -520,7 +548,8 @@ fn add_pairings<'a>(alloc: Global, list: &mut Vec<Command<'a>>) -> Result<(), Al
     let about = "Print the pairings, a line each";
     let file = positional(alloc, "file", "FILE").help(FILE_HELP);
     let only_open = flag(alloc, "open").help(OPEN_HELP);
-    let arguments = vec![in alloc; file, only_open]?;
+    let json = json_flag(alloc);
+    let arguments = vec![in alloc; file, only_open, json]?;
     add_subcommand(alloc, list, "pairings", about, PAIRINGS_EXAMPLE, arguments)
 }
 
@@ -579,6 +608,14 @@ fn with_option<'a>(alloc: Global) -> Arg<'a>
         .long("with")
         .value_name("PAIRING")
         .help(WITH_HELP)
+}
+
+/// Makes the flag for a report in JSON, which each report has.
+fn json_flag<'a>(alloc: Global) -> Arg<'a>
+    ensures rule { rule_of result ≡ optional_flag (codes "json") }
+    ensures local { result.global ≡ false }
+{
+    flag(alloc, "json").help(JSON_HELP)
 }
 
 /// Makes a flag, which may be left out.
@@ -672,8 +709,13 @@ fn roster_of(alloc: Global, matches: &ArgMatches<'_>) -> Result<Action, AllocErr
     ensures { IfOk result (λ a. IsActionOf a (codes "roster", rows_of (found_of matches.now))) }
 {
     let file = text_of(alloc, matches, "file")?;
-    let crew = text_of(alloc, matches, "crew")?;
-    Ok(Action::Roster { file, crew })
+    let subject = Subject::Crew(text_of(alloc, matches, "crew")?);
+    let form = form_of(matches);
+    Ok(Action::Report {
+        file,
+        subject,
+        form,
+    })
 }
 
 /// Reads the arguments of `pairing`.
@@ -682,8 +724,13 @@ fn pairing_of(alloc: Global, matches: &ArgMatches<'_>) -> Result<Action, AllocEr
     ensures { IfOk result (λ a. IsActionOf a (codes "pairing", rows_of (found_of matches.now))) }
 {
     let file = text_of(alloc, matches, "file")?;
-    let pairing = text_of(alloc, matches, "pairing")?;
-    Ok(Action::Pairing { file, pairing })
+    let subject = Subject::Pairing(text_of(alloc, matches, "pairing")?);
+    let form = form_of(matches);
+    Ok(Action::Report {
+        file,
+        subject,
+        form,
+    })
 }
 
 /// Reads the arguments of `limits`.
@@ -694,7 +741,13 @@ fn limits_of(alloc: Global, matches: &ArgMatches<'_>) -> Result<Action, AllocErr
     let file = text_of(alloc, matches, "file")?;
     let crew = text_of(alloc, matches, "crew")?;
     let with = optional_text_of(alloc, matches, "with")?;
-    Ok(Action::Limits { file, crew, with })
+    let subject = Subject::Limits { crew, with };
+    let form = form_of(matches);
+    Ok(Action::Report {
+        file,
+        subject,
+        form,
+    })
 }
 
 /// Reads the arguments of `exceedances`.
@@ -704,7 +757,13 @@ fn exceedances_of(alloc: Global, matches: &ArgMatches<'_>) -> Result<Action, All
         (λ a. IsActionOf a (codes "exceedances", rows_of (found_of matches.now))) }
 {
     let file = text_of(alloc, matches, "file")?;
-    Ok(Action::Exceedances { file })
+    let subject = Subject::Exceedances;
+    let form = form_of(matches);
+    Ok(Action::Report {
+        file,
+        subject,
+        form,
+    })
 }
 
 /// Reads the arguments of `members`.
@@ -713,7 +772,13 @@ fn members_of(alloc: Global, matches: &ArgMatches<'_>) -> Result<Action, AllocEr
     ensures { IfOk result (λ a. IsActionOf a (codes "members", rows_of (found_of matches.now))) }
 {
     let file = text_of(alloc, matches, "file")?;
-    Ok(Action::Members { file })
+    let subject = Subject::Members;
+    let form = form_of(matches);
+    Ok(Action::Report {
+        file,
+        subject,
+        form,
+    })
 }
 
 /// Reads the arguments of `pairings`.
@@ -722,8 +787,35 @@ fn pairings_of(alloc: Global, matches: &ArgMatches<'_>) -> Result<Action, AllocE
     ensures { IfOk result (λ a. IsActionOf a (codes "pairings", rows_of (found_of matches.now))) }
 {
     let file = text_of(alloc, matches, "file")?;
-    let only_open = flag_of(matches, "open");
-    Ok(Action::Pairings { file, only_open })
+    let subject = Subject::Pairings(listed_by(flag_of(matches, "open")));
+    let form = form_of(matches);
+    Ok(Action::Report {
+        file,
+        subject,
+        form,
+    })
+}
+
+/// Returns which pairings are listed: those with a free seat alone, or all.
+fn listed_by(only_open: bool) -> Listed
+    ensures { is_only_open result ≡ only_open }
+{
+    if only_open { Listed::Open } else { Listed::All }
+}
+
+/// Reads the form of a report: JSON, if the flag for that is given.
+fn form_of(matches: &ArgMatches<'_>) -> Form
+    requires { HasFlag (codes "json") (rows_of (found_of matches.now)) }
+    ensures { is_json result ≡ is_on (codes "json") (rows_of (found_of matches.now)) }
+{
+    form_by(flag_of(matches, "json"))
+}
+
+/// Returns the form of a report: JSON or text.
+fn form_by(as_json: bool) -> Form
+    ensures { is_json result ≡ as_json }
+{
+    if as_json { Form::Json } else { Form::Text }
 }
 
 /// Reads the arguments of `serve`.

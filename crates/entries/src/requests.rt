@@ -11,6 +11,7 @@ ghost use Rattle.stored_json.specs.ReplyText.{reply_text};
 ghost use Rattle.entries.specs.Right.{IsKey};
 
 use command::{Command, Key, Reply};
+use request::RequestNumber;
 use std::alloc::Global;
 use stored_json::{CodecFault, canonical, read_canonical, read_reply, reply_to_json};
 use values::{MemoryFault, Sequence};
@@ -21,9 +22,9 @@ pub fn key_of(number: i64, part: u32) -> Option<Key>
         ((key : KeyParts) → IsKey key → number ≡ pos key.number → part ≡ key.part → ⊥)
         (λ key. IsKey key × (number ≡ pos key.number) × (part ≡ key.part)) }
 {
-    let number = u64::try_from(number).ok()?;
+    let number = RequestNumber::new(u64::try_from(number).ok()?)?;
     let part = u16::try_from(part).ok()?;
-    if number == 0 || part > 10_000 {
+    if part > 10_000 {
         return None;
     }
     Some(Key::new(number, part))

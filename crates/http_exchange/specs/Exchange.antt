@@ -25,7 +25,7 @@ use Rattle.http_exchange.specs.declared.exchanges.Served.TheVariants.{Answered, 
 -- body that is cut asks nothing
 abbrev pub asks : Step → List ℕ → Result HandlerRequest RequestFault
 asks (refuse fault) rest = Err fault
-asks (planning.show what) rest = Ok (show what)
+asks (planning.show what form) rest = Ok (show what form)
 asks (receive expected) rest =
     if nat_lt (length rest) expected.length then Err CutBody
     else Ok (submit expected.to (take expected.length rest))
@@ -34,7 +34,7 @@ asks (receive expected) rest =
 -- wanted, isn't read
 abbrev pub unread : Step → List ℕ → List ℕ
 unread (refuse fault) rest = rest
-unread (planning.show what) rest = rest
+unread (planning.show what form) rest = rest
 unread (receive expected) rest = drop expected.length rest
 
 -- what is written before a body is read: that a client that waits may go on
@@ -44,7 +44,7 @@ interim_bytes waits = if waits then continue_bytes else []
 -- what a step writes before the body is read
 abbrev pub interim : Step → List ℕ
 interim (refuse fault) = []
-interim (planning.show what) = []
+interim (planning.show what form) = []
 interim (receive expected) = interim_bytes expected.continues
 
 -- a plan to receive this body

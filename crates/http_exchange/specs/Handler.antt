@@ -1,6 +1,8 @@
 -- What a handler is asked, and what it answers.
 use Rattle.std.specs.Prelude.{ℕ, List, Result, Ok, Err, string_bytes}
-use Rattle.http_message.specs.Plan.{Subject, subject}
+use Rattle.request.specs.declared.form.Form.{Form}
+use Rattle.request.specs.declared.subject.Subject.{Subject}
+use Rattle.request.specs.Subjects.{subject_copied}
 use Rattle.http_message.specs.declared.plan.Submission.{Submission}
 use Rattle.http_message.specs.declared.responses.MediaType.{MediaType}
 use Rattle.http_exchange.specs.declared.handler.Request.{Request}
@@ -8,10 +10,10 @@ use Rattle.http_exchange.specs.declared.handler.Request.TheVariants as rust
 use Rattle.http_exchange.specs.declared.handler.Response.{Response}
 use Rattle.http_exchange.specs.declared.handler.HandlerFault.{HandlerFault}
 
--- what a handler is asked: to do what a body says, or to show a report
+-- what a handler is asked: to do what a body says, or to show a report in a form
 pub data HandlerRequest : Type 0 where
   submit : Submission → List ℕ → HandlerRequest
-  show : Subject → HandlerRequest
+  show : Subject (List ℕ) (List ℕ) → Form → HandlerRequest
 
 -- what a handler answers: a status, and a text with its type
 pub record StatusText : Type 0 where
@@ -24,7 +26,7 @@ pub record StatusText : Type 0 where
 -- a request as contracts see it
 abbrev pub handler_request : Request → HandlerRequest
 handler_request (rust.Submit to body) = submit to body.now
-handler_request (rust.Show report) = show (subject report)
+handler_request (rust.Show what form) = show (subject_copied what) form
 
 -- a response as contracts see it
 abbrev pub answer : Response → StatusText

@@ -1,7 +1,8 @@
 -- What is received of a request whose head was read, before a handler is asked.
 use Rattle.std.specs.Prelude.{◌≡◌, ⊤, List, ℕ, Some, None, Result, Ok, Err}
 use Rattle.std.specs.Io.KnownBytes.{Appends}
-use Rattle.http_message.specs.Plan.{Planned, subject}
+use Rattle.request.specs.Subjects.{subject_copied}
+use Rattle.http_message.specs.Plan.{Planned}
 use Rattle.http_exchange.specs.Exchange.{ChannelBytes, Responds, BreaksOff, asks, interim, unread}
 use Rattle.http_exchange.specs.Handler.{HandlerRequest, StatusText, submit, show}
 use Rattle.http_exchange.specs.declared.handler.HandlerFault.{HandlerFault}
@@ -32,7 +33,8 @@ AsksFor p (Some rest) left out out' asked = IsAskedFor p rest left out out' aske
 abbrev pub IsReceived : Planned → ChannelBytes → ChannelBytes → ChannelBytes → ChannelBytes →
     Received → Type 0
 IsReceived p had left out out' (Body to body) = AsksFor p had left out out' (submit to body.items)
-IsReceived p had left out out' (Report what) = AsksFor p had left out out' (show (subject what))
+IsReceived p had left out out' (Report what form) =
+    AsksFor p had left out out' (show (subject_copied what) form)
 IsReceived p had left out out' (Answered code) =
     Responds IsNeverAsked p had left out out' tt tt code
 

@@ -51,7 +51,9 @@ pub fn exchange<R: Read, W: Write, K, H: Handler<K>>(
     };
     let answer = match receive(alloc, reader, writer, &head)? {
         Received::Body(to, body) => handler.handle(alloc, kept, &Request::Submit(to, &body)),
-        Received::Report(report) => handler.handle(alloc, kept, &Request::Show(report)),
+        Received::Report(subject, form) => {
+            handler.handle(alloc, kept, &Request::Show(subject, form))
+        }
         Received::Answered(status) => return Ok(Served::Answered(status)),
     };
     let status = send_answer(alloc, writer, answer, head.is_for_head())?;

@@ -3,7 +3,8 @@ ghost use Rattle.std.specs.Prelude.{Result};
 ghost use Rattle.http_exchange.specs.Handler as spec;
 
 use http::StatusCode;
-use http_message::{MediaType, Report, Submission};
+use http_message::{MediaType, Submission};
+use request::{Form, Subject};
 use std::alloc::Global;
 
 /// What is asked of a handler.
@@ -11,8 +12,8 @@ use std::alloc::Global;
 pub enum Request<'a> {
     /// To do what a body says.
     Submit(Submission, &'a [u8]),
-    /// To show a report.
-    Show(Report<'a>),
+    /// To show the report on this, in this form.
+    Show(Subject<&'a str, &'a str>, Form),
 }
 
 /// What a handler answers.

@@ -10,9 +10,8 @@ ghost use Rattle.http_exchange.specs.declared.sending.ChannelFault.TheVariants.{
 use crate::body::{BodyRead, read_body};
 use crate::sending::{ChannelFault, send, send_fault, send_no_memory};
 use http::StatusCode;
-use http_message::{
-    CONTINUE, ExpectedBody, Head, HeadAction, Report, RequestFault, Submission, plan_of,
-};
+use http_message::{CONTINUE, ExpectedBody, Head, HeadAction, RequestFault, Submission, plan_of};
+use request::{Form, Subject};
 use std::alloc::Global;
 use std::io::{Read, Write};
 
@@ -21,8 +20,8 @@ use std::io::{Read, Write};
 pub(crate) enum Received<'h> {
     /// To do what this body says.
     Body(Submission, Vec<u8>),
-    /// To show a report.
-    Report(Report<'h>),
+    /// To show the report on this, in this form.
+    Report(Subject<&'h str, &'h str>, Form),
     /// Nothing: it was answered under this status.
     Answered(StatusCode),
 }
@@ -46,7 +45,7 @@ pub(crate) fn receive<'h, R: Read, W: Write>(
             let status = send_fault(alloc, writer, fault, is_head)?;
             Ok(Received::Answered(status))
         }
-        HeadAction::Show(report) => Ok(Received::Report(report)),
+        HeadAction::Show(subject, form) => Ok(Received::Report(subject, form)),
         HeadAction::Receive(expected) => receive_body(alloc, reader, writer, expected, is_head),
     }
 }

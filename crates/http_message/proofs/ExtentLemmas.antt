@@ -8,11 +8,14 @@ use Rattle.httparse.proofs.GrammarLemmas.{ReadsRequest-append}
 use Rattle.std.specs.Str.{is_utf8}
 use Rattle.http_message.specs.Heading.{Heading, heading, shown_head}
 use Rattle.http_message.specs.Reading.{HasHead, HasNoHead}
-use Rattle.http_message.specs.Target.{path_of}
+use Rattle.http_message.specs.Target.{path_of, form_of, without_json}
+use Rattle.request.specs.declared.form.Form.{Form}
+use Rattle.request.specs.declared.form.Form.TheVariants.{Text, Json}
+use Rattle.request.specs.declared.subject.Subject.{Subject}
 use Rattle.http_message.specs.Routes.{PathResource, place_of_path}
 use Rattle.http_message.specs.Routes as place
 use Rattle.http_message.specs.Numbers.{import_number}
-use Rattle.http_message.specs.Plan.{Step, Subject, field, imported, is_foreign, is_method, lacks_host, plan_for_head, posted, shown, step_of_place}
+use Rattle.http_message.specs.Plan.{Step, field, imported, is_foreign, is_method, lacks_host, plan_for_head, posted, shown, step_of_place}
 use Rattle.http_message.specs.declared.plan.Submission.{Submission}
 use Rattle.http_message.specs.Extents.{IsExtent, IsExtentOf, NeverHasHead, body_length, waits}
 use Rattle.http_message.specs.declared.extents.Extent.{Extent}
@@ -56,32 +59,29 @@ module _ (h : Heading) (other : is_method h (codes "POST") ≡ false) where
   not_posted : (to : Submission) → NeedsNoBody (posted h to)
   not_posted to = rw other (refl, refl)
 
-  only_shown : (what : Subject) → NeedsNoBody (shown h what)
-  only_shown what = either_needs_none (is_method h (codes "GET") || is_method h (codes "HEAD")) _ _ (refl, refl) (refl, refl)
+  only_shown : (what : Subject (List ℕ) (List ℕ)) (form : Form) → NeedsNoBody (shown h what form)
+  only_shown what form = either_needs_none (is_method h (codes "GET") || is_method h (codes "HEAD")) _ _ (refl, refl) (refl, refl)
 
   not_imported : (number : Option ℕ) → NeedsNoBody (imported h number)
   not_imported None = (refl, refl)
   not_imported (Some number) = not_posted _
 
-  no_place_needs_a_body : (named : Option PathResource) → NeedsNoBody (step_of_place h named)
-  no_place_needs_a_body None = (refl, refl)
-  no_place_needs_a_body (Some place.requests) = not_posted _
-  no_place_needs_a_body (Some place.checks) = not_posted _
-  no_place_needs_a_body (Some (place.import number)) = not_imported (import_number number)
-  no_place_needs_a_body (Some (place.crew id)) = only_shown _
-  no_place_needs_a_body (Some (place.pairing id)) = only_shown _
-  no_place_needs_a_body (Some place.exceedances) = only_shown _
-  no_place_needs_a_body (Some (place.limits id with)) = only_shown _
-  no_place_needs_a_body (Some place.members) = only_shown _
-  no_place_needs_a_body (Some place.pairings) = only_shown _
-  no_place_needs_a_body (Some place.open_pairings) = only_shown _
+  no_place_needs_a_body : (named : Option PathResource) (form : Form) → NeedsNoBody (step_of_place h named form)
+  no_place_needs_a_body None form = (refl, refl)
+  no_place_needs_a_body (Some (place.report what)) form = only_shown what form
+  no_place_needs_a_body (Some place.requests) Text = not_posted _
+  no_place_needs_a_body (Some place.checks) Text = not_posted _
+  no_place_needs_a_body (Some (place.import number)) Text = not_imported (import_number number)
+  no_place_needs_a_body (Some place.requests) Json = (refl, refl)
+  no_place_needs_a_body (Some place.checks) Json = (refl, refl)
+  no_place_needs_a_body (Some (place.import number)) Json = (refl, refl)
 
   no_body : NeedsNoBody (plan_for_head h).step
   no_body =
       either_needs_none (lacks_host h) _ _ (refl, refl)
       (either_needs_none (is_foreign h) _ _ (refl, refl)
       (either_needs_none (nat_lt 0 (length (field h (codes "transfer-encoding")))) _ _ (refl, refl)
-      (either_needs_none (is_utf8 (path_of h.target)) _ _ (no_place_needs_a_body (place_of_path (path_of h.target))) (refl, refl))))
+      (either_needs_none (is_utf8 (path_of h.target)) _ _ (no_place_needs_a_body (place_of_path (without_json (path_of h.target))) (form_of (path_of h.target))) (refl, refl))))
 
 -- a head of another method than POST settles its request
 pub only_posts_have_bodies : (h : Heading) (length : ℕ) → is_method h (codes "POST") ≡ false → IsExtentOf length (plan_for_head h).step (Known (record { length = length; waits = false }))

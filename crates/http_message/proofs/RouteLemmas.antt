@@ -10,7 +10,9 @@ use Rattle.matchit.specs.Router.{RouteOf}
 use Rattle.matchit.specs.Seek.{seek, step, own, or_else, first, param_step, has_slash, segment, cuts}
 use Rattle.http_message.specs.declared.routes.Route.{Route}
 use Rattle.http_message.specs.declared.routes.Route.TheVariants.{Requests, Checks, Import, Crew, Pairing, Exceedances, Limits, LimitsWith, Members, Pairings, OpenPairings}
-use Rattle.http_message.specs.Routes.{PathResource, requests, checks, import, crew, pairing, exceedances, limits, members, pairings, open_pairings, place_of_path, route_table, exactly, id_after, ids_after, at_slash, both_ids, is_path_id, first_or_other}
+use Rattle.request.specs.declared.subject.Listed.TheVariants.{All, Open}
+use Rattle.request.specs.declared.subject.Subject.TheVariants as subject
+use Rattle.http_message.specs.Routes.{PathResource, requests, checks, import, report, place_of_path, route_table, exactly, id_after, ids_after, at_slash, both_ids, is_path_id, first_or_other}
 
 -- ---- a walk over rows of any keys
 
@@ -320,6 +322,28 @@ module _ {K : Type 0} where
 
 -- ---- the table
 
+-- the places of the reports
+abbrev pub crew : List ℕ → PathResource
+crew id = report (subject.Crew id)
+
+abbrev pub pairing : List ℕ → PathResource
+pairing id = report (subject.Pairing id)
+
+abbrev pub limits : List ℕ → Option (List ℕ) → PathResource
+limits id with = report (subject.Limits id with)
+
+abbrev pub exceedances : PathResource
+exceedances = report subject.Exceedances
+
+abbrev pub members : PathResource
+members = report subject.Members
+
+abbrev pub pairings : PathResource
+pairings = report (subject.Pairings All)
+
+abbrev pub open_pairings : PathResource
+open_pairings = report (subject.Pairings Open)
+
 abbrev pub Found : Type 0
 Found = Option (RouteOf Route)
 
@@ -340,14 +364,14 @@ abbrev pub route_to : PathResource → Route
 route_to requests = Requests
 route_to checks = Checks
 route_to (import number) = Import
-route_to (crew id) = Crew
-route_to (pairing id) = Pairing
-route_to exceedances = Exceedances
-route_to (limits id None) = Limits
-route_to (limits id (Some other)) = LimitsWith
-route_to members = Members
-route_to pairings = Pairings
-route_to open_pairings = OpenPairings
+route_to (report (subject.Crew id)) = Crew
+route_to (report (subject.Pairing id)) = Pairing
+route_to (report subject.Exceedances) = Exceedances
+route_to (report (subject.Limits id None)) = Limits
+route_to (report (subject.Limits id (Some other))) = LimitsWith
+route_to (report subject.Members) = Members
+route_to (report (subject.Pairings All)) = Pairings
+route_to (report (subject.Pairings Open)) = OpenPairings
 
 -- the row that leads to a place
 abbrev pub row_to : Option PathResource → Found

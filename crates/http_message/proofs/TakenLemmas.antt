@@ -11,8 +11,8 @@ use Rattle.matchit.specs.Router.{RouteOf}
 use Rattle.matchit.specs.Seek.{first, segment, has_slash}
 use Rattle.http_message.specs.declared.routes.Route.{Route}
 use Rattle.http_message.specs.declared.routes.Route.TheVariants.{Requests, Checks, Import, Crew, Pairing, Exceedances, Limits, LimitsWith, Members, Pairings, OpenPairings}
-use Rattle.http_message.specs.Routes.{PathResource, requests, checks, import, crew, pairing, exceedances, limits, members, pairings, open_pairings, place_of_path, place_by, route_table, exactly, id_after, ids_after, at_slash, both_ids, is_path_id, first_or_other}
-use Rattle.http_message.proofs.RouteLemmas.{Found, IsText, is_text, row_of, route_to, row_to, table_found, text_of, IsCut, cut_at_slash, segment_at_slash}
+use Rattle.http_message.specs.Routes.{PathResource, requests, checks, import, place_of_path, place_by, route_table, exactly, id_after, ids_after, at_slash, both_ids, is_path_id, first_or_other}
+use Rattle.http_message.proofs.RouteLemmas.{Found, IsText, is_text, row_of, route_to, row_to, crew, pairing, exceedances, limits, members, pairings, open_pairings, table_found, text_of, IsCut, cut_at_slash, segment_at_slash}
 
 -- ---- parts of a path
 

@@ -15,13 +15,13 @@ NeverHasHead bytes = (more : List ℕ) → HasNoHead (bytes ++ more)
 abbrev pub body_length : Step → ℕ
 body_length (refuse fault) = 0
 body_length (receive expected) = expected.length
-body_length (show what) = 0
+body_length (show what form) = 0
 
 -- whether the client waits before it sends the body that a step wants
 abbrev pub waits : Step → Bool
 waits (refuse fault) = false
 waits (receive expected) = expected.continues
-waits (show what) = false
+waits (show what form) = false
 
 -- A head of this many bytes, for which this is done, and the body that is wanted settle a request.
 abbrev pub IsExtentOf : ℕ → Step → Extent → Type 0

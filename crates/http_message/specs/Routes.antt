@@ -6,6 +6,10 @@ use Rattle.matchit.specs.declared.params.Params.{Params}
 use Rattle.matchit.specs.Params as matched
 use Rattle.matchit.specs.Rows.{RowsOf}
 use Rattle.matchit.specs.Router.{RouteOf}
+use Rattle.request.specs.declared.subject.Listed.TheVariants.{All, Open}
+use Rattle.request.specs.declared.subject.Subject.{Subject}
+use Rattle.request.specs.declared.subject.Subject.TheVariants as subject
+use Rattle.request.specs.Subjects.{subject_copied}
 use Rattle.http_message.specs.declared.routes.Resource.{Resource}
 use Rattle.http_message.specs.declared.routes.Resource.TheVariants as resource
 use Rattle.http_message.specs.declared.routes.Route.{Route}
@@ -14,13 +18,12 @@ use Rattle.http_message.specs.declared.routes.Route.TheVariants.{Pairing, Exceed
 use Rattle.http_message.specs.declared.routes.Route.TheVariants.{LimitsWith, Members, Pairings}
 use Rattle.http_message.specs.declared.routes.Route.TheVariants.{OpenPairings}
 
--- what a path names: commands, commands that are only checked, an import, a member's roster, a
--- pairing, the exceedances, a member's limits, alone or with a pairing, the members, the pairings,
--- or the pairings with a free seat
+-- what a path names: commands, commands that are only checked, an import by its number, or a report
+-- by its subject
 pub data PathResource : Type 0 where
-  requests checks exceedances members pairings open_pairings : PathResource
-  import crew pairing : List ℕ → PathResource
-  limits : List ℕ → Option (List ℕ) → PathResource
+  requests checks : PathResource
+  import : List ℕ → PathResource
+  report : Subject (List ℕ) (List ℕ) → PathResource
 
 -- whether a text is an id in a path: one or more bytes without a slash
 abbrev pub is_path_id : List ℕ → Bool
@@ -66,28 +69,24 @@ place_of_path path =
     first_or_other (exactly (codes "/requests") requests path)
     (first_or_other (exactly (codes "/checks") checks path)
     (first_or_other (option_map import (id_after (codes "/imports/") path))
-    (first_or_other (option_map crew (id_after (codes "/crew/") path))
-    (first_or_other (option_map pairing (id_after (codes "/pairings/") path))
-    (first_or_other (exactly (codes "/exceedances") exceedances path)
-    (first_or_other (option_map (λ id. limits id None) (id_after (codes "/reports/limits/") path))
-    (first_or_other (option_map (λ ids. limits ids.0 (Some ids.1))
+    (first_or_other (option_map (λ id. report (subject.Crew id)) (id_after (codes "/crew/") path))
+    (first_or_other (option_map (λ id. report (subject.Pairing id))
+    (id_after (codes "/pairings/") path))
+    (first_or_other (exactly (codes "/exceedances") (report subject.Exceedances) path)
+    (first_or_other (option_map (λ id. report (subject.Limits id None))
+    (id_after (codes "/reports/limits/") path))
+    (first_or_other (option_map (λ ids. report (subject.Limits ids.0 (Some ids.1)))
     (ids_after (codes "/reports/limits/") path))
-    (first_or_other (exactly (codes "/reports/members") members path)
-    (first_or_other (exactly (codes "/reports/pairings") pairings path)
-    (exactly (codes "/reports/open") open_pairings path))))))))))
+    (first_or_other (exactly (codes "/reports/members") (report subject.Members) path)
+    (first_or_other (exactly (codes "/reports/pairings") (report (subject.Pairings All)) path)
+    (exactly (codes "/reports/open") (report (subject.Pairings Open)) path))))))))))
 
 -- a resource as contracts see it: the place that a path names
 abbrev pub path_resource : Resource → PathResource
 path_resource resource.Requests = requests
 path_resource resource.Checks = checks
 path_resource (resource.Import number) = import number.now
-path_resource (resource.Crew id) = crew id.now
-path_resource (resource.Pairing id) = pairing id.now
-path_resource resource.Exceedances = exceedances
-path_resource (resource.Limits id with) = limits id.now (option_map (λ id. id.now) with)
-path_resource resource.Members = members
-path_resource resource.Pairings = pairings
-path_resource resource.OpenPairings = open_pairings
+path_resource (resource.Report what) = report (subject_copied what)
 
 -- ---- What the router works with
 
@@ -98,22 +97,24 @@ taken params = matched.walk params.pattern.now params.text.now params.path.now p
 -- the limits of a member with a pairing, if both ids were taken
 abbrev pub limits_with : Option (List ℕ) → Option (List ℕ) → Option PathResource
 limits_with None other = None
-limits_with (Some id) other = option_map (λ other. limits id (Some other)) other
+limits_with (Some id) other = option_map (λ other. report (subject.Limits id (Some other))) other
 
 -- what a route leads to, by what its parameters took
 abbrev pub place_by : Route → List (List ℕ × List ℕ) → Option PathResource
 place_by Requests taken = Some requests
 place_by Checks taken = Some checks
 place_by Import taken = option_map import (matched.named (codes "number") taken)
-place_by Crew taken = option_map crew (matched.named (codes "id") taken)
-place_by Pairing taken = option_map pairing (matched.named (codes "id") taken)
-place_by Exceedances taken = Some exceedances
-place_by Limits taken = option_map (λ id. limits id None) (matched.named (codes "crew") taken)
+place_by Crew taken = option_map (λ id. report (subject.Crew id)) (matched.named (codes "id") taken)
+place_by Pairing taken =
+    option_map (λ id. report (subject.Pairing id)) (matched.named (codes "id") taken)
+place_by Exceedances taken = Some (report subject.Exceedances)
+place_by Limits taken =
+    option_map (λ id. report (subject.Limits id None)) (matched.named (codes "crew") taken)
 place_by LimitsWith taken =
     limits_with (matched.named (codes "crew") taken) (matched.named (codes "pairing") taken)
-place_by Members taken = Some members
-place_by Pairings taken = Some pairings
-place_by OpenPairings taken = Some open_pairings
+place_by Members taken = Some (report subject.Members)
+place_by Pairings taken = Some (report (subject.Pairings All))
+place_by OpenPairings taken = Some (report (subject.Pairings Open))
 
 -- a row of the router's table: a pattern, its text, where the names stand in the text, and the
 -- route

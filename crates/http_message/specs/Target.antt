@@ -1,6 +1,8 @@
--- The path of a target.
-use Rattle.std.specs.Prelude.{ℕ, Bool, ◌&&◌, List, [], ◌∷◌, length, codes, drop, take}
+-- The path of a target, and in which form a path asks for a report.
+use Rattle.std.specs.Prelude.{ℕ, Bool, ◌&&◌, List, [], ◌∷◌, length, codes, bytes_eq, drop, take}
 use Rattle.std.specs.Prelude.{if◌then◌else◌, ◌==◌, nat_le, position, Option, Some, None}
+use Rattle.request.specs.declared.form.Form.{Form}
+use Rattle.request.specs.declared.form.Form.TheVariants.{Text, Json}
 use Rattle.http_message.specs.Fields.{is_same}
 
 -- a text up to a place, or the whole text if there is no place
@@ -31,3 +33,15 @@ abbrev pub path_of : List ℕ → List ℕ
 path_of target =
     if is_absolute (before_query target) then from_slash (drop 7 (before_query target))
     else before_query target
+
+-- whether a path begins with `/json`
+abbrev pub has_json : List ℕ → Bool
+has_json path = bytes_eq (take 5 path) (codes "/json")
+
+-- the form in which a path asks for a report
+abbrev pub form_of : List ℕ → Form
+form_of path = if has_json path then Json else Text
+
+-- a path without a `/json` in front
+abbrev pub without_json : List ℕ → List ℕ
+without_json path = if has_json path then drop 5 path else path

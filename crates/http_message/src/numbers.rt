@@ -6,7 +6,7 @@ ghost use Rattle.std.specs.List.{list_all};
 ghost use Rattle.std.specs.Str.Parse.{digits_value};
 ghost use Rattle.http_message.specs.Numbers as spec;
 
-use request_number::RequestNumber;
+use request::RequestNumber;
 
 /// The most bytes of a body.
 pub(crate) const MOST_BODY: usize = 1_048_576;

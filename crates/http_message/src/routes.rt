@@ -5,6 +5,7 @@ ghost use Rattle.matchit.specs.Params.{AllText};
 ghost use Rattle.http_message.specs.Routes as spec;
 
 use matchit::{InsertError, Params, Router};
+use request::{Listed, Subject};
 use std::alloc::Global;
 use values::MemoryFault;
 
@@ -17,23 +18,8 @@ pub enum Resource<'p> {
     Checks,
     /// The import of this number.
     Import(&'p str),
-    /// The roster of the member of this id.
-    Crew(&'p str),
-    /// The pairing of this id.
-    Pairing(&'p str),
-    /// The exceedances.
-    Exceedances,
-    /// How near the duties of the member of this id are to each limit, alone or with a pairing.
-    Limits {
-        crew: &'p str,
-        with: Option<&'p str>,
-    },
-    /// All members.
-    Members,
-    /// All pairings.
-    Pairings,
-    /// The pairings with a free seat.
-    OpenPairings,
+    /// The report on this.
+    Report(Subject<&'p str, &'p str>),
 }
 
 /// The routes to them.
@@ -81,26 +67,26 @@ fn resource_at<'p>(route: Route, params: &Params<'_, 'p>) -> Option<Resource<'p>
     ensures { AllText (spec.taken params.now)
         → option_map spec.path_resource result ≡ spec.place_by route (spec.taken params.now) }
 {
-    let resource = match route {
-        Route::Requests => Resource::Requests,
-        Route::Checks => Resource::Checks,
-        Route::Import => Resource::Import(params.get("number")?),
-        Route::Crew => Resource::Crew(params.get("id")?),
-        Route::Pairing => Resource::Pairing(params.get("id")?),
-        Route::Exceedances => Resource::Exceedances,
-        Route::Limits => Resource::Limits {
+    let subject = match route {
+        Route::Requests => return Some(Resource::Requests),
+        Route::Checks => return Some(Resource::Checks),
+        Route::Import => return Some(Resource::Import(params.get("number")?)),
+        Route::Crew => Subject::Crew(params.get("id")?),
+        Route::Pairing => Subject::Pairing(params.get("id")?),
+        Route::Exceedances => Subject::Exceedances,
+        Route::Limits => Subject::Limits {
             crew: params.get("crew")?,
             with: None,
         },
-        Route::LimitsWith => Resource::Limits {
+        Route::LimitsWith => Subject::Limits {
             crew: params.get("crew")?,
             with: Some(params.get("pairing")?),
         },
-        Route::Members => Resource::Members,
-        Route::Pairings => Resource::Pairings,
-        Route::OpenPairings => Resource::OpenPairings,
+        Route::Members => Subject::Members,
+        Route::Pairings => Subject::Pairings(Listed::All),
+        Route::OpenPairings => Subject::Pairings(Listed::Open),
     };
-    Some(resource)
+    Some(Resource::Report(subject))
 }
 
 /// Makes the table of the resources.

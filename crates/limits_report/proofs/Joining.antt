@@ -1,6 +1,5 @@
--- Steps over lists, and a list of named duties as the duties of a member that are judged.
+-- A step over lists, and a list of named duties as the duties of a member that are judged.
 use Rattle.std.proofs.Common.{◌≡◌, ◌∙◌, ℕ, suc, ◌+◌, ◌-◌, ◌<◌, arith, List, [], ◌∷◌, ◌++◌, map, length, drop, get_or, add-one, drop-cons, append_assoc, refl, sym, ap, ap₂, subst, Some, None}
-use Rattle.std.specs.List.{flat_map}
 use Rattle.std.specs.Prelude.{slice_range}
 use Rattle.std.proofs.lemmas.List.{drop-map, length-drop, length-map, map-append, take_all}
 use Rattle.std.proofs.Math.Seq.{drop-append_seam}
@@ -10,19 +9,23 @@ use Rattle.nearness.specs.Nearness.{IsNearness}
 use Rattle.roster.specs.Places.{Placed, duties, history_of, periods_at}
 use Rattle.roster.specs.State.{State, zone_of}
 use Rattle.roster.specs.declared.state.PairingEntry.{PairingEntry}
-use Rattle.limits_report.specs.LimitsText.{Judged, IsJudgedText, names, others_than, section_line}
-use Rattle.limits_report.specs.Listing.{IsTextOf, all_but_pairing, named_duty, names_of, times_of}
+use Rattle.limits_report.specs.NearestLimits.{AreNearest, Judged, names, nearest_limit, others_than}
+use Rattle.limits_report.specs.Listing.{AreNearestOf, all_but_pairing, named_duty, names_of, times_of}
 use Rattle.limits_report.specs.declared.named_duties.NamedDuty.{NamedDuty}
+use Rattle.limits_report.specs.declared.nearest.NearestLimit.{NearestLimit}
 
--- one line more
-pub one_more : {X : Type 0} (f : X → List ℕ) (text line more all : List ℕ) (items : List X) (k : ℕ) (d : X) → k < length items →
-    line ≡ f (get_or items k d) → more ≡ text ++ line → text ++ flat_map f (drop k items) ≡ all → more ++ flat_map f (drop (k + 1) items) ≡ all
-one_more f text line more all items k d l is added so_far =
+-- one item more
+pub one_more : {X Y : Type 0} (f : X → Y) (before after : List Y) (y : Y) (all : List Y) (items : List X) (k : ℕ) (d : X) → k < length items →
+    y ≡ f (get_or items k d) → after ≡ before ++ y ∷ [] → before ++ map f (drop k items) ≡ all → after ++ map f (drop (k + 1) items) ≡ all
+one_more f before after y all items k d l is added so_far =
     let rest : drop k items ≡ get_or items k d ∷ drop (suc k) items = drop-cons items k d l in
-    let next : flat_map f (drop k items) ≡ f (get_or items k d) ++ flat_map f (drop (suc k) items) = ap (flat_map f) rest in
-    rw add-one
-    (ap (λ t. t ++ flat_map f (drop (suc k) items)) (added ∙ ap (λ t. text ++ t) is)
-    ∙ append_assoc text (f (get_or items k d)) (flat_map f (drop (suc k) items)) ∙ ap (λ t. text ++ t) (sym next) ∙ so_far)
+    let more = map f (drop (k + 1) items) in
+    let next : map f (drop k items) ≡ f (get_or items k d) ∷ more = rw (add-one k) (ap (map f) rest) in
+    ap (λ ys. ys ++ more) added
+    ∙ append_assoc before (y ∷ []) more
+    ∙ ap (λ x. before ++ x ∷ more) is
+    ∙ ap (λ ys. before ++ ys) (sym next)
+    ∙ so_far
 
 -- the duties from an index on, without their names
 pub times_to_end : (n : ℕ) (list : List NamedDuty) (new : List DutyInForce) → new ≡ times_of (slice_range list n (length list)) →
@@ -44,9 +47,9 @@ names_named : (xs : List Placed) → names_of (map named_duty xs) ≡ names xs
 names_named [] = refl
 names_named (x ∷ xs) = ap (λ ns. (named_duty x).name ∷ ns) (names_named xs)
 
-pub judged_from : (j : Judged) (list : List NamedDuty) (others : ℕ) (first head text : List ℕ) → list ≡ map named_duty (j.others ++ j.new) →
-    others ≡ length j.others → first ≡ head → IsTextOf list others first text → IsJudgedText j head text
-judged_from j list others first head text is count begins told =
+pub judged_from : (j : Judged) (list : List NamedDuty) (others : ℕ) (limits : List NearestLimit) → list ≡ map named_duty (j.others ++ j.new) →
+    others ≡ length j.others → AreNearestOf list others limits → AreNearest j limits
+judged_from j list others limits is count found =
     let all : times_of list ≡ duties (j.others ++ j.new) = ap times_of is ∙ times_named (j.others ++ j.new) in
     let split : list ≡ map named_duty j.others ++ map named_duty j.new = is ∙ map-append named_duty j.others j.new in
     let long : others ≡ length (map named_duty j.others) = count ∙ sym (length-map j.others named_duty) in
@@ -54,12 +57,12 @@ judged_from j list others first head text is count begins told =
     let new : times_of (drop others list) ≡ duties j.new = ap times_of last ∙ times_named j.new in
     let is_named : names_of list ≡ names (j.others ++ j.new) = ap names_of is ∙ names_named (j.others ++ j.new) in
     record {
-      nearness = told.nearness;
+      nearness = found.nearness;
       nearest =
-          subst (λ n. IsNearness (duties (j.others ++ j.new)) (duties j.new) n told.nearness) count
-          (subst (λ ds. IsNearness (duties (j.others ++ j.new)) ds others told.nearness) new
-          (subst (λ ds. IsNearness ds (times_of (drop others list)) others told.nearness) all told.nearest));
-      is = told.is ∙ ap₂ (λ f ns. f ++ flat_map (section_line ns told.nearness) all_sections) begins is_named;
+          subst (λ n. IsNearness (duties (j.others ++ j.new)) (duties j.new) n found.nearness) count
+          (subst (λ ds. IsNearness (duties (j.others ++ j.new)) ds others found.nearness) new
+          (subst (λ ds. IsNearness ds (times_of (drop others list)) others found.nearness) all found.nearest));
+      are = found.are ∙ ap (λ ns. map (nearest_limit ns found.nearness) all_sections) is_named;
     }
 
 -- the list of a member's duties, of which none is left out

@@ -24,7 +24,8 @@ use Rattle.roster.specs.declared.state.PairingEntry.{PairingEntry}
 use Rattle.roster.proofs.Members.{is_first, is_later}
 use Rattle.roster.proofs.Standing.{standing}
 use Rattle.limits_report.specs.Laws.{LineExceedsIsRule, ExceedsIsBroken, ExceedsIsRefused}
-use Rattle.limits_report.specs.LimitsText.{Judged, IsLimitsText, as_if_held}
+use Rattle.limits_report.specs.LimitsText.{IsLimitsText}
+use Rattle.limits_report.specs.NearestLimits.{Judged, as_if_held}
 
 -- the new duties are the last of all
 last : (j : Judged) → drop (length j.others) (duties (j.others ++ j.new)) ≡ duties j.new
@@ -36,7 +37,7 @@ last j =
 pub is_rule : LineExceedsIsRule
 is_rule s who pairing text is section =
     let j = is.of in
-    near.exceeds_is_rule (duties (j.others ++ j.new)) (duties j.new) (length j.others) is.told.nearness (last j) is.told.nearest section
+    near.exceeds_is_rule (duties (j.others ++ j.new)) (duties j.new) (length j.others) is.told.are.nearness (last j) is.told.are.nearest section
 
 -- ---- The limits that a pairing breaks
 
@@ -70,8 +71,8 @@ unfolding Broken
 is_broken s who id text is =
     let all = duties (is.of.others ++ is.of.new) in
     let new = duties is.of.new in
-    filter_agree (λ section. exceeds section is.told.nearness) (λ section. breaks section all new)
-    (λ section. same_test (exceeds section is.told.nearness) (breaks section all new) (Rule section all new)
+    filter_agree (λ section. exceeds section is.told.are.nearness) (λ section. breaks section all new)
+    (λ section. same_test (exceeds section is.told.are.nearness) (breaks section all new) (Rule section all new)
     (is_rule s who (Some id) text is section) (breaks_is section all new)) all_sections
     ∙ ap₂ Broken (all_are s who id text is) (new_are s who id text is)
 

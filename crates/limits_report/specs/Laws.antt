@@ -12,18 +12,20 @@ use Rattle.roster.specs.Pairings.{holds}
 use Rattle.roster.specs.Places.{duties, no_place, others, the_pairing}
 use Rattle.roster.specs.Refusals.{broken_by, duties_of}
 use Rattle.roster.specs.State.{State}
-use Rattle.limits_report.specs.LimitsText.{IsLimitsText, IsJudgedText, Judged, judged_duties}
+use Rattle.limits_report.specs.LimitsText.{IsLimitsText, IsJudgedText}
+use Rattle.limits_report.specs.NearestLimits.{AreNearestLimits, Judged, judged_duties}
+use Rattle.limits_report.specs.declared.nearest.NearestLimit.{NearestLimit}
 
 -- the sections whose lines in a limits text end in `exceeds`, in their order
 abbrev pub exceeding : {of : Judged} {first text : List ℕ} → IsJudgedText of first text →
     List Section
-exceeding told = filter (λ section. exceeds section told.nearness) all_sections
+exceeding told = filter (λ section. exceeds section told.are.nearness) all_sections
 
 -- A line of a limits text ends in `exceeds` if and only if the new duties break its section's rule.
 abbrev pub LineExceedsIsRule : Type 0
 LineExceedsIsRule = (s : State) (who : List ℕ) (pairing : Option (List ℕ)) (text : List ℕ)
     (is : IsLimitsText s who pairing text) (section : Section) →
-    IsTrue (exceeds section is.told.nearness)
+    IsTrue (exceeds section is.told.are.nearness)
     ↔ Rule section (duties (is.of.others ++ is.of.new)) (duties is.of.new)
 
 -- With a pairing the lines that end in `exceeds` are the lines of the limits that the pairing's
@@ -53,3 +55,16 @@ EachHasText = (s : State) (who : List ℕ) (pairing : Option (List ℕ)) (member
 abbrev pub HasOneText : Type 0
 HasOneText = (s : State) (who : List ℕ) (pairing : Option (List ℕ)) (a b : List ℕ) →
     IsLimitsText s who pairing a → IsLimitsText s who pairing b → a ≡ b
+
+-- What is nearest to the limits of a member's duties is there, with each pairing that is in the
+-- state and without one.
+abbrev pub EachHasNearest : Type 0
+EachHasNearest = (s : State) (who : List ℕ) (pairing : Option (List ℕ)) (of : Judged) →
+    judged_duties s who pairing ≡ Some of →
+    (limits : List NearestLimit) × AreNearestLimits s who pairing limits
+
+-- What is nearest to the limits of a member's duties is one list at most, with each pairing or
+-- without one.
+abbrev pub HasOneNearest : Type 0
+HasOneNearest = (s : State) (who : List ℕ) (pairing : Option (List ℕ)) (a b : List NearestLimit) →
+    AreNearestLimits s who pairing a → AreNearestLimits s who pairing b → a ≡ b

@@ -1,3 +1,4 @@
 pub mod Laws
+pub mod NearestLimits
 pub mod LimitsText
 pub mod Listing

@@ -1,15 +1,16 @@
 -- How the duties of a member are listed, for private clauses alone: nothing here has to be read to
 -- know what the crate promises.
-use Rattle.std.specs.Prelude.{◌≡◌, ℕ, Bool, false, not, List, ◌++◌, map, drop, ℤ, ◌≤ℤ◌, IsTrue}
+use Rattle.std.specs.Prelude.{◌≡◌, ℕ, Bool, false, not, List, map, drop, ℤ, ◌≤ℤ◌, IsTrue}
 use Rattle.std.specs.Prelude.{Option, Some, None}
-use Rattle.std.specs.List.{filter, flat_map}
+use Rattle.std.specs.List.{filter}
 use Rattle.duty.specs.declared.duty_in_force.DutyInForce.{DutyInForce}
 use Rattle.limits.specs.Judgement.{all_sections}
 use Rattle.nearness.specs.Nearness.{IsNearness}
 use Rattle.nearness.specs.declared.all_limits.Nearness.{Nearness}
 use Rattle.roster.specs.Places.{Place, Placed, the_pairing}
-use Rattle.limits_report.specs.LimitsText.{place_text, section_line}
+use Rattle.limits_report.specs.NearestLimits.{place_text, nearest_limit}
 use Rattle.limits_report.specs.declared.named_duties.NamedDuty.{NamedDuty}
+use Rattle.limits_report.specs.declared.nearest.NearestLimit.{NearestLimit}
 
 -- a duty with the name of its place
 abbrev pub named_duty : Placed → NamedDuty
@@ -38,9 +39,9 @@ pub record HasFrom (set : ℤ → Bool) (start : ℤ) : Type 0 where
   pub from_start : start ≤ℤ minute
   pub member : IsTrue (set minute)
 
--- The text of a list of duties, of which the duties from `others` on are new: the first line, and a
--- line for each section.
-pub record IsTextOf (list : List NamedDuty) (others : ℕ) (first text : List ℕ) : Type 0 where
+-- What is nearest to each limit, of a list of duties of which the duties from `others` on are new.
+pub record AreNearestOf (list : List NamedDuty) (others : ℕ) (limits : List NearestLimit)
+    : Type 0 where
   pub nearness : Nearness
   pub nearest : IsNearness (times_of list) (times_of (drop others list)) others nearness
-  pub is : text ≡ first ++ flat_map (section_line (names_of list) nearness) all_sections
+  pub are : limits ≡ map (nearest_limit (names_of list) nearness) all_sections

@@ -1,5 +1,5 @@
-//! What holds of the texts of each roster. Each of these functions does nothing; its clause is a law.
-ghost use Rattle.limits_report.specs.Laws.{EachHasText, ExceedsIsBroken, ExceedsIsRefused, LineExceedsIsRule, HasOneText};
+//! What holds of the limits of each roster, and of their texts. Each of these functions does nothing; its clause is a law.
+ghost use Rattle.limits_report.specs.Laws.{EachHasNearest, EachHasText, ExceedsIsBroken, ExceedsIsRefused, HasOneNearest, HasOneText, LineExceedsIsRule};
 
 /// A line ends in `exceeds` if and only if the new duties break its section's rule.
 pub fn exceeds_is_rule()
@@ -24,4 +24,14 @@ pub fn each_text()
 /// A member has one text at most.
 pub fn one_text()
     ensures { HasOneText }
+{}
+
+/// What is nearest to the limits of a member's duties is there, with each pairing that is there and without one.
+pub fn each_nearest()
+    ensures { EachHasNearest }
+{}
+
+/// It is one list at most.
+pub fn one_nearest()
+    ensures { HasOneNearest }
 {}

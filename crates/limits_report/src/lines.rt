@@ -1,112 +1,111 @@
-//! The line of each section.
+//! The line of each limit.
 //! Wrong bodies: `must-fail-more/`.
 ghost use Rattle.std.specs.Prelude.{◌≡◌, ◌++◌, IfOk, string_bytes};
 ghost use Rattle.std.specs.List.{flat_map};
-ghost use Rattle.limits.specs.Judgement.{all_sections};
-ghost use Rattle.nearness.specs.Nearness.{IsNearness};
-ghost use Rattle.limits_report.specs.Listing.{names_of, times_of};
 ghost use Rattle.limits_report.specs.LimitsText as spec;
 
-use crate::named_duties::NamedDuty;
-use crate::nearest_texts::{rest_text, table_text, window_text};
-use duty::{History, Kind};
-use limits::Section;
-use nearness::Nearness;
+use crate::hours::WideHours;
+use crate::nearest::{FirstMinute, NearestLimit};
+use report::instant;
 use std::alloc::Global;
-use values::MemoryFault;
+use values::{MemoryFault, Text};
 
-/// The sections in the order of their lines.
-const SECTIONS: [Section; 8] = [
-    Section::FlightTime,
-    Section::FlightDutyPeriod,
-    Section::FlightTime672Hours,
-    Section::FlightTime365Days,
-    Section::FlightDutyPeriods168Hours,
-    Section::FlightDutyPeriods672Hours,
-    Section::ThirtyHourRest,
-    Section::TenHourRest,
-];
-
-/// What is nearest to each limit, of the duties that are judged.
-#[derive(Drop)]
-pub(crate) struct Limits<'a> {
-    /// All of the member's duties, the new ones last.
-    pub(crate) duties: &'a [NamedDuty],
-    pub(crate) new: &'a History,
-    pub(crate) others: usize,
-    pub(crate) nearness: Nearness,
+/// Writes a line for each limit in turn, behind the first line.
+pub(crate) fn lines(
+    alloc: Global,
+    first: String,
+    limits: &[NearestLimit],
+) -> Result<String, MemoryFault>
+    ensures { IfOk result (λ text.
+        string_bytes text ≡ string_bytes first ++ flat_map spec.limit_line limits.now) }
+{
+    let mut text = first;
+    for limit in limits {
+        text.push_str(&line(alloc, limit)?)?;
+    }
+    Ok(text)
 }
 
-impl Limits<'_> {
-    /// Writes a line for each section in turn, behind the first line.
-    pub(crate) fn lines(&self, alloc: Global, first: String) -> Result<String, MemoryFault>
-        requires { IsNearness (times_of self.now.duties.now) self.now.new.now
-            self.now.others self.now.nearness }
-        ensures { IfOk result (λ text. string_bytes text ≡ string_bytes first
-            ++ flat_map (spec.section_line (names_of self.now.duties.now)
-            self.now.nearness) all_sections) }
-    {
-        let mut text = first;
-        for section in SECTIONS {
-            text.push_str(&self.line(alloc, section)?)?;
-        }
-        Ok(text)
-    }
+fn line(alloc: Global, limit: &NearestLimit) -> Result<String, MemoryFault>
+    ensures { IfOk result (λ text. string_bytes text ≡ spec.limit_line limit.now) }
+{
+    let minutes = minutes_text(alloc, limit.limit, limit.minutes)?;
+    let duty = duty_name_text(alloc, &limit.duty)?;
+    let from = from_text(alloc, limit.from)?;
+    let word = word(limit.exceeds);
+    let mut text = format!(in alloc; "{} {minutes}", limit.section)?;
+    text.push_str(&format!(in alloc; "{duty}{from}")?)?;
+    text.push_str(&format!(in alloc; " {word}\n")?)?;
+    Ok(text)
+}
 
-    fn line(&self, alloc: Global, section: Section) -> Result<String, MemoryFault>
-        requires { IsNearness (times_of self.now.duties.now) self.now.new.now
-            self.now.others self.now.nearness }
-        ensures { IfOk result (λ text. string_bytes text ≡ spec.section_line
-            (names_of self.now.duties.now) self.now.nearness section) }
-    {
-        let nearest = self.nearest_text(alloc, section)?;
-        let word = word(self.nearness.exceeds(section));
-        Ok(format!(in alloc; "{section} {nearest} {word}\n")?)
-    }
+/// Writes this many minutes of those that a limit sets, as `8:30 of 9:00`.
+fn of_limit(alloc: Global, minutes: u128, limit: u32) -> Result<String, MemoryFault>
+    ensures { IfOk result (λ text. string_bytes text ≡ spec.of_limit minutes limit) }
+{
+    let minutes = WideHours { minutes };
+    let limit = WideHours {
+        minutes: limit as u128,
+    };
+    Ok(format!(in alloc; "{minutes} of {limit}")?)
+}
 
-    /// Writes what is nearest to the section's limit.
-    fn nearest_text(&self, alloc: Global, section: Section) -> Result<String, MemoryFault>
-        requires { IsNearness (times_of self.now.duties.now) self.now.new.now
-            self.now.others self.now.nearness }
-        ensures { IfOk result (λ text. string_bytes text ≡ spec.nearest_text
-            (names_of self.now.duties.now) self.now.nearness section) }
-    {
-        let (duties, new, nearest) = (self.duties, self.new, self.nearness);
-        match section {
-            Section::FlightTime => table_text(alloc, duties, nearest.flight_time),
-            Section::FlightDutyPeriod => table_text(alloc, duties, nearest.flight_duty_period),
-            Section::FlightTime672Hours => window_text(
-                alloc,
-                new,
-                Kind::Flight,
-                6_000,
-                nearest.flight_time_672_hours,
-            ),
-            Section::FlightTime365Days => window_text(
-                alloc,
-                new,
-                Kind::Flight,
-                60_000,
-                nearest.flight_time_365_days,
-            ),
-            Section::FlightDutyPeriods168Hours => window_text(
-                alloc,
-                new,
-                Kind::FlightDuty,
-                3_600,
-                nearest.flight_duty_periods_168_hours,
-            ),
-            Section::FlightDutyPeriods672Hours => window_text(
-                alloc,
-                new,
-                Kind::FlightDuty,
-                11_400,
-                nearest.flight_duty_periods_672_hours,
-            ),
-            Section::ThirtyHourRest => rest_text(alloc, duties, 1_800, nearest.thirty_hour_rest),
-            Section::TenHourRest => rest_text(alloc, duties, 600, nearest.ten_hour_rest),
-        }
+/// Writes a dash for the minutes that aren't counted, and what the limit sets.
+fn no_minutes(alloc: Global, limit: u32) -> Result<String, MemoryFault>
+    ensures { IfOk result (λ text. string_bytes text ≡ spec.no_minutes_text limit) }
+{
+    let limit = WideHours {
+        minutes: limit as u128,
+    };
+    Ok(format!(in alloc; "- of {limit}")?)
+}
+
+/// Writes the minutes that are counted of those that the limit sets; a dash for what isn't there.
+fn minutes_text(
+    alloc: Global,
+    limit: Option<u32>,
+    minutes: Option<u128>,
+) -> Result<String, MemoryFault>
+    ensures { IfOk result (λ text. string_bytes text ≡ spec.minutes_text limit minutes) }
+{
+    let Some(limit) = limit else {
+        return Ok(String::from_str(alloc, "-")?);
+    };
+    match minutes {
+        Some(minutes) => of_limit(alloc, minutes, limit),
+        None => no_minutes(alloc, limit),
     }
+}
+
+/// Writes the name of the period that is nearest, behind a blank, if one is.
+fn duty_name_text(alloc: Global, duty: &Option<Text>) -> Result<String, MemoryFault>
+    ensures { IfOk result (λ text. string_bytes text ≡ spec.duty_name_text duty.now) }
+{
+    match duty {
+        Some(name) => Ok(format!(in alloc; " {}", name.as_str())?),
+        None => Ok(String::new(alloc)),
+    }
+}
+
+/// Writes the first minute of a window as an instant, or that it is before the first one.
+fn first_minute_text(alloc: Global, minute: FirstMinute) -> Result<String, MemoryFault>
+    ensures { IfOk result (λ text. string_bytes text ≡ spec.first_minute_text minute) }
+{
+    match minute {
+        FirstMinute::At(minute) => instant(alloc, minute),
+        FirstMinute::Before2000 => Ok(String::from_str(alloc, "before 2000-01-01T00:00Z")?),
+    }
+}
+
+/// Writes from when on the window that is nearest goes, if one is.
+fn from_text(alloc: Global, from: Option<FirstMinute>) -> Result<String, MemoryFault>
+    ensures { IfOk result (λ text. string_bytes text ≡ spec.from_text from) }
+{
+    let Some(minute) = from else {
+        return Ok(String::new(alloc));
+    };
+    let minute = first_minute_text(alloc, minute)?;
+    Ok(format!(in alloc; " from {minute}")?)
 }
 
 /// Returns `exceeds` or `within`.

@@ -3,8 +3,8 @@
 ghost use Rattle.std.specs.Prelude.{◌≡◌, ◌++◌, ℕ, IfOk, OnOk, map};
 ghost use Rattle.std.specs.Option.{option_copied};
 ghost use Rattle.roster.specs.Places.{period, periods_at, periods_of, grounds_of, outsides_of, history_of};
-ghost use Rattle.limits_report.specs.LimitsText.{place_text};
 ghost use Rattle.limits_report.specs.Listing.{all_but_pairing, is_of, named_duty, times_of};
+ghost use Rattle.limits_report.specs.NearestLimits.{place_text};
 
 use duty::{CrewId, DutyInForce, History, PairingId, Span};
 use roster::{PairingEntry, Roster};

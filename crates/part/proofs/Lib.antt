@@ -8,3 +8,6 @@ pub mod Picked
 pub mod ShownParts
 pub mod ShownTexts
 pub mod LimitsTexts
+pub mod ShownAlike
+pub mod EachShown
+pub mod OneShown

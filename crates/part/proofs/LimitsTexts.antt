@@ -1,17 +1,18 @@
 -- The limits of the part that is gathered for them are those of the state.
-use Rattle.std.proofs.Common.{◌≡◌, ℕ, true, false, not, List, [], map, ◌++◌, sym, ap, ◌∙◌, Option, Some, None}
+use Rattle.std.proofs.Common.{◌≡◌, ◌↔◌, ℕ, true, false, not, List, [], map, ◌++◌, sym, ap, ◌∙◌, Option, Some, None}
 use Rattle.std.specs.FinMap as fin
 use Rattle.std.specs.List.{filter, flat_map}
 use Rattle.std.specs.Option.{option_map, option_map_or}
 use Rattle.std.specs.Str.{bytes_eq}
 use Rattle.duty.specs.Shape.{home}
-use Rattle.limits_report.specs.LimitsText.{IsLimitsText, judged_duties}
+use Rattle.limits_report.specs.LimitsText.{IsLimitsText}
+use Rattle.limits_report.specs.NearestLimits.{judged_duties}
 use Rattle.roster.specs.Bases.{zone_at}
 use Rattle.roster.specs.Pairings.{holds}
 use Rattle.roster.specs.Places.{Placed, ground_at, history_of, outside_at, periods_at, the_pairing}
 use Rattle.roster.specs.State.{State, zone_of}
 use Rattle.roster.specs.declared.state.PairingEntry.{PairingEntry}
-use Rattle.part.specs.Shown.{HasLimitsText, is_held_of, is_held_or_named, limits_part}
+use Rattle.part.specs.Shown.{is_held_of, is_held_or_named, limits_part}
 use Rattle.part.proofs.Retained.{same_name, retained, from_retained, same_passing, or_left, or_right}
 use Rattle.part.proofs.ShownTexts.{crew_same, grounds_same, outsides_same}
 
@@ -38,7 +39,7 @@ module _ (s : State) (who : List ℕ) (named : Option (List ℕ)) where
       ++ map ground_at (grounds_same s who i)
       ++ map outside_at (outsides_same s who i)
 
-judged_same : (s : State) (who : List ℕ) (named : Option (List ℕ)) → judged_duties (limits_part s who named) who named ≡ judged_duties s who named
+pub judged_same : (s : State) (who : List ℕ) (named : Option (List ℕ)) → judged_duties (limits_part s who named) who named ≡ judged_duties s who named
 judged_same s who None i = Some (record { others = []; new = history_same s who None i })
 judged_same s who (Some id) i = option_map (λ r. record {
   others = filter (λ (p : Placed). not (the_pairing id p.0)) (history_same s who (Some id) i);
@@ -55,12 +56,8 @@ module _ (s t : State) (who : List ℕ) (named : Option (List ℕ)) (crew : fin.
     told = is.told;
   }
 
-pub limits_shown_text : HasLimitsText
-limits_shown_text s who named = (
-  crew_same s who,
-  judged_same s who named,
-  λ text. (
-    limits_on (limits_part s who named) s who named (crew_same s who) (judged_same s who named) text,
-    limits_on s (limits_part s who named) who named (sym (crew_same s who)) (sym (judged_same s who named)) text,
-  ),
+pub limits_shown_text : (s : State) (who : List ℕ) (named : Option (List ℕ)) (text : List ℕ) → IsLimitsText (limits_part s who named) who named text ↔ IsLimitsText s who named text
+limits_shown_text s who named text = (
+  limits_on (limits_part s who named) s who named (crew_same s who) (judged_same s who named) text,
+  limits_on s (limits_part s who named) who named (sym (crew_same s who)) (sym (judged_same s who named)) text,
 )

@@ -1,17 +1,51 @@
--- The parts of a state that are shown.
-use Rattle.std.specs.Prelude.{◌≡◌, ◌↔◌, false, ◌||◌, ℕ, Bool, List, Option, Some, None}
+-- What is shown of a state: which text it is, or why there is none; and the part of the state that
+-- is handed out for the text.
+use Rattle.std.specs.Prelude.{◌≡◌, ◌↔◌, false, ◌||◌, ℕ, Bool, List, Option, Some, None, IsSome}
+use Rattle.std.specs.Prelude.{Result, Ok, Err}
 use Rattle.std.specs.FinMap as fin
 use Rattle.std.specs.Option.{option_map_or}
 use Rattle.std.specs.Str.{bytes_eq}
-use Rattle.limits_report.specs.LimitsText.{IsLimitsText, judged_duties}
-use Rattle.list_report.specs.MembersText.{IsMembersText}
-use Rattle.list_report.specs.PairingsText.{IsPairingsText}
-use Rattle.list_report.specs.declared.pairings.Listed.{Listed}
+use Rattle.request.specs.declared.subject.Subject.{Subject}
+use Rattle.request.specs.declared.subject.Subject.TheVariants.{Crew, Limits, Pairing, Exceedances}
+use Rattle.request.specs.declared.subject.Subject.TheVariants.{Members, Pairings}
+use Rattle.limits_report.specs.LimitsText.{IsLimitsText}
+use Rattle.limits_report.specs.NearestLimits.{judged_duties}
 use Rattle.report.specs.ExceedanceText.{IsExceedanceText}
+use Rattle.report.specs.MembersText.{IsMembersText}
 use Rattle.report.specs.PairingText.{pairing_text}
+use Rattle.report.specs.PairingsText.{IsPairingsText}
 use Rattle.report.specs.RosterText.{IsRosterText}
 use Rattle.roster.specs.Pairings.{holds}
+use Rattle.roster.specs.Sound.{Sound}
 use Rattle.roster.specs.State.{State}
+
+-- ---- What is shown
+
+-- why there is no text: the member isn't there, or the pairing isn't
+pub data Absence : Type 0 where
+  no_crew no_pairing : Absence
+
+-- what is shown of a state: the text of a member's roster, of a member's limits, of a pairing, of
+-- the exceedances, of the members or of pairings; or that there is none, and why
+abbrev pub IsShown : State → Subject (List ℕ) (List ℕ) → Result (List ℕ) Absence → Type 0
+IsShown s (Crew who) (Ok text) = IsRosterText s who text
+IsShown s (Crew who) (Err no_crew) = fin.get s.crew who ≡ None
+IsShown s (Crew who) (Err no_pairing) = ⊥
+IsShown s (Limits who named) (Ok text) = IsLimitsText s who named text
+IsShown s (Limits who named) (Err no_crew) = fin.get s.crew who ≡ None
+IsShown s (Limits who named) (Err no_pairing) =
+    IsSome (fin.get s.crew who) × (judged_duties s who named ≡ None)
+IsShown s (Pairing id) (Ok text) = pairing_text s id ≡ Some text
+IsShown s (Pairing id) (Err no_crew) = ⊥
+IsShown s (Pairing id) (Err no_pairing) = pairing_text s id ≡ None
+IsShown s Exceedances (Ok text) = IsExceedanceText s text
+IsShown s Exceedances (Err absence) = ⊥
+IsShown s Members (Ok text) = IsMembersText s text
+IsShown s Members (Err absence) = ⊥
+IsShown s (Pairings which) (Ok text) = IsPairingsText s which text
+IsShown s (Pairings which) (Err absence) = ⊥
+
+-- ---- The parts
 
 -- the member holds a seat of the pairing with this id
 abbrev pub is_held_of : State → List ℕ → List ℕ → Bool
@@ -100,41 +134,30 @@ exceedances_part s = record {
   requests = fin.empty;
 }
 
+-- the part of a state that is handed out for a text, and no more
+abbrev pub shown_part : State → Subject (List ℕ) (List ℕ) → State
+shown_part s (Crew who) = member_part s who
+shown_part s (Limits who named) = limits_part s who named
+shown_part s (Pairing id) = pairing_part s id
+shown_part s Exceedances = exceedances_part s
+shown_part s Members = crew_part s
+shown_part s (Pairings which) = pairings_part s
+
 -- ---- Laws
 
--- the roster text of a member is that of the member's part; if the state has no such member, the
--- part has none
-abbrev pub HasMemberText : Type 0
-HasMemberText = (s : State) (who : List ℕ) →
-    (fin.get (member_part s who).crew who ≡ fin.get s.crew who)
-    × ((text : List ℕ) → IsRosterText (member_part s who) who text ↔ IsRosterText s who text)
+-- what is shown of the part that is handed out for a text is what is shown of the state: the same
+-- text, or none for the same reason
+abbrev pub PartIsShownAlike : Type 0
+PartIsShownAlike = (s : State) (what : Subject (List ℕ) (List ℕ))
+    (answer : Result (List ℕ) Absence) →
+    IsShown (shown_part s what) what answer ↔ IsShown s what answer
 
--- the limits of a member, with a named pairing or without one, are those of the part for limits:
--- the same member, the same duties that are judged, and the same text
-abbrev pub HasLimitsText : Type 0
-HasLimitsText = (s : State) (who : List ℕ) (named : Option (List ℕ)) →
-    (fin.get (limits_part s who named).crew who ≡ fin.get s.crew who)
-    × (judged_duties (limits_part s who named) who named ≡ judged_duties s who named)
-    × ((text : List ℕ) → IsLimitsText (limits_part s who named) who named text
-    ↔ IsLimitsText s who named text)
+-- of a sound state something is shown, whatever is asked: a text, or why there is none
+abbrev pub EachIsShown : Type 0
+EachIsShown = (s : State) (what : Subject (List ℕ) (List ℕ)) → Sound s →
+    (answer : Result (List ℕ) Absence) × IsShown s what answer
 
--- the text of a pairing is that of the part with the pairing alone
-abbrev pub HasPairingText : Type 0
-HasPairingText = (s : State) (id : List ℕ) →
-    pairing_text (pairing_part s id) id ≡ pairing_text s id
-
--- the text of the exceedances is that of the part with the exceedances alone
-abbrev pub HasExceedanceText : Type 0
-HasExceedanceText = (s : State) (text : List ℕ) →
-    IsExceedanceText (exceedances_part s) text ↔ IsExceedanceText s text
-
--- the text of the members is that of the part with the members alone
-abbrev pub HasMembersText : Type 0
-HasMembersText = (s : State) (text : List ℕ) →
-    IsMembersText (crew_part s) text ↔ IsMembersText s text
-
--- the text of the pairings, of all or of those with a free seat, is that of the part with the
--- pairings alone
-abbrev pub HasPairingsText : Type 0
-HasPairingsText = (s : State) (which : Listed) (text : List ℕ) →
-    IsPairingsText (pairings_part s) which text ↔ IsPairingsText s which text
+-- what is shown of a state for one subject is one: one text, or one reason why there is none
+abbrev pub HasOneShown : Type 0
+HasOneShown = (s : State) (what : Subject (List ℕ) (List ℕ)) (a b : Result (List ℕ) Absence) →
+    IsShown s what a → IsShown s what b → a ≡ b

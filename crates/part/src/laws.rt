@@ -1,7 +1,7 @@
 //! What holds of the parts of a state. Each of these functions does nothing; its clause is a law.
 
 ghost use Rattle.part.specs.Part.{AnswersAsWhole, NamesSettle, PartStaysSound};
-ghost use Rattle.part.specs.Shown.{HasExceedanceText, HasLimitsText, HasMemberText, HasMembersText, HasPairingText, HasPairingsText};
+ghost use Rattle.part.specs.Shown.{EachIsShown, HasOneShown, PartIsShownAlike};
 
 /// A part answers its command as the whole state does: with the same verdict, reply and change.
 pub fn answers_as_whole()
@@ -18,32 +18,17 @@ pub fn part_is_sound()
     ensures { PartStaysSound }
 {}
 
-/// A member's text is that of the member's part.
-pub fn part_has_member_text()
-    ensures { HasMemberText }
+/// The part that is handed out for a text has the text of the state, or none for the same reason.
+pub fn part_is_shown_alike()
+    ensures { PartIsShownAlike }
 {}
 
-/// The text of a member's limits is that of their part.
-pub fn part_has_limits_text()
-    ensures { HasLimitsText }
+/// Of a sound state something is shown, whatever is asked: a text, or that the member or the pairing isn't there.
+pub fn each_is_shown()
+    ensures { EachIsShown }
 {}
 
-/// A pairing's text is that of the pairing's part.
-pub fn part_has_pairing_text()
-    ensures { HasPairingText }
-{}
-
-/// The text of the exceedances is that of the exceedances alone.
-pub fn part_has_exceedance_text()
-    ensures { HasExceedanceText }
-{}
-
-/// The text of the members is that of the members alone.
-pub fn part_has_members_text()
-    ensures { HasMembersText }
-{}
-
-/// The text of the pairings, of all or of those with a free seat, is that of the pairings alone.
-pub fn part_has_pairings_text()
-    ensures { HasPairingsText }
+/// For each subject one thing at most is shown.
+pub fn one_shown()
+    ensures { HasOneShown }
 {}

@@ -1,5 +1,5 @@
-//! The part of the book's state that a command needs: what it is, how it is gathered by key, and how a command is judged
-//! by no more of it than that takes.
+//! The part of the book's state that a command or a report needs: what it is, how it is gathered by key, and how a command is
+//! judged by no more of it than that takes.
 #![tactic(auto)]
 
 mod gathering;
@@ -12,7 +12,5 @@ mod source;
 
 pub use gathering::gather;
 pub use judging::judge;
-pub use showing::{
-    gather_crew, gather_exceedances, gather_limits, gather_member, gather_pairing, gather_pairings,
-};
+pub use showing::gather_shown;
 pub use source::Source;

@@ -1,5 +1,5 @@
 //! What is shown of a member, of a member's limits, of a pairing, or of all members, pairings or exceedances, gathered
-//! from a source.
+//! from a source. Its definition is `shown_part` (`specs/Shown.antt`).
 //! Through the program: `tests/reports.py`. Wrong bodies: `must-fail-more/`.
 
 ghost use Rattle.std.specs.Prelude.{◌≡◌, IfErr, OnOk};
@@ -7,13 +7,14 @@ ghost use Rattle.std.specs.FinMap as fin;
 ghost use Rattle.std.specs.Option.{option_copied};
 ghost use Rattle.std.specs.Str.{bytes_eq};
 ghost use Rattle.roster.specs.Holding.{AreJust, IsGroundOf, IsHeldBy, IsOutsideOf};
-ghost use Rattle.part.specs.Shown.{crew_part, exceedances_part, limits_part, member_part, pairing_part, pairings_part};
+ghost use Rattle.part.specs.Shown.{crew_part, exceedances_part, limits_part, member_part, pairing_part, pairings_part, shown_part};
 ghost use Rattle.part.specs.Sources.{IsCauseOfGathering, TellsOfState, pick_named};
 
 use crate::pick::{pick_grounds, pick_members, pick_outsides, pick_pairings, put_found};
 use crate::source::Source;
 use command::Member;
 use duty::{CrewId, GroundId, OutsideId, PairingId};
+use request::Subject;
 use roster::{PairingEntry, Roster};
 use std::alloc::Global;
 use values::OrdMap;
@@ -86,11 +87,7 @@ fn one_pairing<S: Source>(
 }
 
 /// Gathers a member, with the pairings that the member holds, and the member's ground duties and outside periods.
-pub fn gather_member<S: Source>(
-    alloc: Global,
-    source: &mut S,
-    who: &CrewId,
-) -> Result<Roster, S::Fault>
+fn gather_member<S: Source>(alloc: Global, source: &mut S, who: &CrewId) -> Result<Roster, S::Fault>
     ensures told { TellsOfState S.is_clean S.shows
         (λ s it. it ≡ member_part s who.now) source.old source.new result }
     ensures left { S.stays source.old source.new }
@@ -142,7 +139,7 @@ fn add_named_pairing<S: Source>(
 
 /// Gathers what the limits of a member need: the member as `gather_member` does, and the pairing that is named, if one
 /// is.
-pub fn gather_limits<S: Source>(
+fn gather_limits<S: Source>(
     alloc: Global,
     source: &mut S,
     who: &CrewId,
@@ -163,7 +160,7 @@ pub fn gather_limits<S: Source>(
 }
 
 /// Gathers a pairing alone.
-pub fn gather_pairing<S: Source>(
+fn gather_pairing<S: Source>(
     alloc: Global,
     source: &mut S,
     id: &PairingId,
@@ -190,7 +187,7 @@ pub fn gather_pairing<S: Source>(
 }
 
 /// Gathers all members alone.
-pub fn gather_crew<S: Source>(alloc: Global, source: &mut S) -> Result<Roster, S::Fault>
+fn gather_crew<S: Source>(alloc: Global, source: &mut S) -> Result<Roster, S::Fault>
     ensures told { TellsOfState S.is_clean S.shows
         (λ s it. it ≡ crew_part s) source.old source.new result }
     ensures left { S.stays source.old source.new }
@@ -215,7 +212,7 @@ pub fn gather_crew<S: Source>(alloc: Global, source: &mut S) -> Result<Roster, S
 }
 
 /// Gathers all pairings alone.
-pub fn gather_pairings<S: Source>(alloc: Global, source: &mut S) -> Result<Roster, S::Fault>
+fn gather_pairings<S: Source>(alloc: Global, source: &mut S) -> Result<Roster, S::Fault>
     ensures told { TellsOfState S.is_clean S.shows
         (λ s it. it ≡ pairings_part s) source.old source.new result }
     ensures left { S.stays source.old source.new }
@@ -240,7 +237,7 @@ pub fn gather_pairings<S: Source>(alloc: Global, source: &mut S) -> Result<Roste
 }
 
 /// Gathers the exceedances alone.
-pub fn gather_exceedances<S: Source>(alloc: Global, source: &mut S) -> Result<Roster, S::Fault>
+fn gather_exceedances<S: Source>(alloc: Global, source: &mut S) -> Result<Roster, S::Fault>
     ensures told { TellsOfState S.is_clean S.shows
         (λ s it. it ≡ exceedances_part s) source.old source.new result }
     ensures left { S.stays source.old source.new }
@@ -260,4 +257,28 @@ pub fn gather_exceedances<S: Source>(alloc: Global, source: &mut S) -> Result<Ro
         exceedances,
         requests: OrdMap::new(alloc),
     })
+}
+
+/// Gathers what the text of this subject needs, and no more.
+pub fn gather_shown<S: Source>(
+    alloc: Global,
+    source: &mut S,
+    what: &Subject<CrewId, PairingId>,
+) -> Result<Roster, S::Fault>
+    ensures told { TellsOfState S.is_clean S.shows
+        (λ s it. it ≡ shown_part s what.now) source.old source.new result }
+    ensures left { S.stays source.old source.new }
+    ensures caused { IfErr result
+        (IsCauseOfGathering S.fails S.Fault.from_gives source.old source.new) }
+    ensures serves { OnOk result (S.serves source.old source.new) }
+    ensures there { OnOk result (S.is_there source.new) }
+{
+    match what {
+        Subject::Crew(who) => gather_member(alloc, source, who),
+        Subject::Limits { crew, with } => gather_limits(alloc, source, crew, with.as_ref()),
+        Subject::Pairing(id) => gather_pairing(alloc, source, id),
+        Subject::Exceedances => gather_exceedances(alloc, source),
+        Subject::Members => gather_crew(alloc, source),
+        Subject::Pairings(_) => gather_pairings(alloc, source),
+    }
 }

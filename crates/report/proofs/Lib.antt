@@ -1,3 +1,5 @@
+pub mod EachOrder
+pub mod EachText
 pub mod ExceedanceRows
 pub mod FewSegments
 pub mod InOrder

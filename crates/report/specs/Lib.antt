@@ -5,3 +5,5 @@ pub mod Lines
 pub mod RosterText
 pub mod PairingText
 pub mod ExceedanceText
+pub mod MembersText
+pub mod PairingsText

@@ -4,14 +4,20 @@ ghost use Rattle.std.specs.Prelude.{◌≡◌, ◌≤◌, IfOk, length};
 ghost use Rattle.std.specs.List.{All};
 ghost use Rattle.report.specs.Periods as spec;
 
-use duty::{Fdp, flight_minutes, last_block_in};
+use duty::{Actual, Fdp, flight_minutes, last_block_in};
 use roster::{PairingEntry, with_times_in_force};
 use std::alloc::Global;
-use values::MemoryFault;
+use values::{MemoryFault, TryClone};
 
-/// A flight duty period (14 CFR 117.3) with its times in force: those of its actual, if it has one, else the planned ones.
+/// A flight duty period (14 CFR 117.3) as it is planned, as it was flown, and with its times in force: those of its actual, if it
+/// has one, else the planned ones.
 #[derive(Drop)]
 pub struct PeriodInForce {
+    /// As it is planned.
+    pub plan: Fdp,
+    /// As it was flown, if it was.
+    pub actual: Option<Actual>,
+    /// With its times in force.
     pub fdp: Fdp,
     /// Whether it has an actual.
     pub is_flown: bool,
@@ -51,6 +57,8 @@ pub fn periods_of(alloc: Global, entry: &PairingEntry) -> Result<Vec<PeriodInFor
     let mut periods = Vec::new(alloc);
     for (period, actual) in entry.plan.periods().iter().zip(entry.actuals.as_slice()) {
         periods.push(PeriodInForce {
+            plan: period.try_clone(alloc)?,
+            actual: actual.try_clone(alloc)?,
             fdp: with_times_in_force(alloc, period, actual)?,
             is_flown: actual.is_some(),
         })?;

@@ -13,7 +13,8 @@ use Rattle.entries.specs.declared.fault.LoadFault.{LoadFault}
 use Rattle.roster.specs.Folds.{Asked, Fold, ReplyOrRefusal, import}
 use Rattle.roster.specs.State.{State}
 use Rattle.state_rows.specs.declared.fault.StoreFault.TheVariants as faults
-use Rattle.store.specs.declared.show.Show.{Show}
+use Rattle.request.specs.declared.form.Form.{Form}
+use Rattle.request.specs.declared.subject.Subject.{Subject}
 use Rattle.book.specs.Calls.{IsAfterCalls}
 use Rattle.book.specs.Found.{IsCleanLeft, IsFaultOf, IsUnclosed, LeavesBook, LeavesByCrash, MeansWhatIsIn}
 use Rattle.book.specs.Kept.{IsClean, IsDurablyAt, IsInDoubt, Kept}
@@ -140,11 +141,11 @@ module _ {D : Type 0} {g : Ghosts D} (image : Image) (old new : Kept (FileStore 
       ];
     }
 
-    pub shown_at : (what : Show) (out out' err err' : ChannelBytes) (result : Result Status Stop) → IfOk result (λ status. (s : State) × IsToldOf s what status out out' err err') →
-        ((s : State) → IsDurablyAt over_files old s → IsClean over_files new → IfOk result (λ status. IsToldOf s what status out out' err err')) →
-        ((s : State) → IsDurablyAt over_files old s → IsDurablyAt over_files new s) → IfOk result (IsShownBy (IsByFiles (Some left) image) what out out' err err')
-    shown_at what out out' err err' (Ok status) some told stays = record { some = some; by = by_files _ _ (clean_before_same over_files old new stays) told stays }
-    shown_at what out out' err err' (Err stop) some told stays = tt
+    pub shown_at : (subject : Subject (List ℕ) (List ℕ)) (form : Form) (out out' err err' : ChannelBytes) (result : Result Status Stop) → IfOk result (λ status. (s : State) × IsToldOf s subject form status out out' err err') →
+        ((s : State) → IsDurablyAt over_files old s → IsClean over_files new → IfOk result (λ status. IsToldOf s subject form status out out' err err')) →
+        ((s : State) → IsDurablyAt over_files old s → IsDurablyAt over_files new s) → IfOk result (IsShownBy (IsByFiles (Some left) image) subject form out out' err err')
+    shown_at subject form out out' err err' (Ok status) some told stays = record { some = some; by = by_files _ _ (clean_before_same over_files old new stays) told stays }
+    shown_at subject form out out' err err' (Err stop) some told stays = tt
 
   -- ---- Whatever the status
 

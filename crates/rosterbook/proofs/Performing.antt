@@ -5,7 +5,7 @@ use Rattle.sqlite_disk.specs.declared.Disk.{Ghosts}
 use Rattle.sqlite_wal.specs.Recovery.{Image}
 use Rattle.book.specs.declared.file.FilesLeft.{FilesLeft}
 use Rattle.console.specs.declared.actions.Action.{Action}
-use Rattle.console.specs.declared.actions.Action.TheVariants.{Duty, Init, Do, Import, Roster, Limits, Pairing, Exceedances, Members, Pairings, Serve}
+use Rattle.console.specs.declared.actions.Action.TheVariants.{Duty, Init, Do, Import, Report, Serve}
 use Rattle.http_exchange.specs.Exchange.{ChannelBytes}
 use Rattle.rosterbook.specs.ByFiles.{HaveSession, IsPerformedByFiles, IsRefusedAs, IsRefusedByFiles, IsServedByFiles, IsServeStoppedByFiles, PerformsByFiles}
 use Rattle.rosterbook.specs.Program.{Gives, IsPerformed, PerformsAction, ProgramOutput, exit_status, memory_answer}
@@ -31,12 +31,7 @@ module _ {D : Type 0} {g : Ghosts D} (image : Image) (left : Option (FilesLeft D
       | inr done ↦ inr (done.0, done.1, done.2, done.3, done.4)
     ];
   }
-  performs (Roster file crew) it = it.some
-  performs (Limits file crew with) it = it.some
-  performs (Pairing file id) it = it.some
-  performs (Exceedances file) it = it.some
-  performs (Members file) it = it.some
-  performs (Pairings file only_open) it = it.some
+  performs (Report file subject form) it = it.some
   performs (Serve file port connections) it =
       let done = it.3 in
       record { outcomes = done.served.0; ends = done.ends; each = done.served.1; listens = done.listens; lines = done.served.2.lines refl }

@@ -1,9 +1,10 @@
 -- What is reported of a book that is shown.
-use Rattle.std.proofs.Common.{◌≡◌, inl, inr, refl, ap, sym, subst, Result, Ok, Err}
+use Rattle.std.proofs.Common.{◌≡◌, inl, inr, refl, ap, sym, subst, ℕ, List, Result, Ok, Err}
 use Rattle.sqlite_trees.specs.declared.store.Store.{Ghosts}
 use Rattle.roster.specs.State.{State}
 use Rattle.state_rows.specs.declared.fault.StoreFault.{StoreFault}
-use Rattle.store.specs.declared.show.Show.{Show}
+use Rattle.request.specs.declared.form.Form.{Form}
+use Rattle.request.specs.declared.subject.Subject.{Subject}
 use Rattle.book.specs.Kept.{IsDurablyAt, IsClean, Kept}
 use Rattle.asking.specs.Reports.{HasGivenRoster, IsReportAsked, ReportsShown, ShowsOf, text_shown}
 use Rattle.asking.specs.declared.answers.AskFault.{AskFault}
@@ -36,40 +37,40 @@ not_of_book new out out' stop (inr is) = subst (IsShowStopped new out out') (sym
 -- ---- What is printed
 
 -- what is shown of a state is reported of it
-shown_told : (s : State) (what : Show) (it : Shown) (status : Status) (out out' err err' : ChannelBytes) → ShowsOf s what (Ok it) → PrintsShown it status out out' err err'
-    → IsToldOf s what status out out' err err'
-shown_told s what it status out out' err err' is prints = record { shown = text_shown it; is = is; told = prints }
+shown_told : (s : State) (subject : Subject (List ℕ) (List ℕ)) (form : Form) (it : Shown) (status : Status) (out out' err err' : ChannelBytes) → ShowsOf s subject form (Ok it) → PrintsShown it status out out' err err'
+    → IsToldOf s subject form status out out' err err'
+shown_told s subject form it status out out' err err' is prints = record { shown = text_shown it; is = is; told = prints }
 
-module _ {S : Type 0} (g : Ghosts S) (old new : Kept S) (what : Show) where
+module _ {S : Type 0} (g : Ghosts S) (old new : Kept S) (subject : Subject (List ℕ) (List ℕ)) (form : Form) where
   -- ---- What was shown is reported
 
   module _ (it : Shown) (status : Status) (out out' err err' : ChannelBytes) (prints : PrintsShown it status out out' err err') where
-    some_shown : (r : Result State StoreFault) → ReportsShown r what (Ok it) → (s : State) × IsToldOf s what status out out' err err'
-    some_shown (Ok roster) is = (roster, shown_told roster what it status out out' err err' is prints)
+    some_shown : (r : Result State StoreFault) → ReportsShown r subject form (Ok it) → (s : State) × IsToldOf s subject form status out out' err err'
+    some_shown (Ok roster) is = (roster, shown_told roster subject form it status out out' err err' is prints)
     some_shown (Err fault) is = absurd (cc)
 
-    pub some_told : IsReportAsked g old new what (Ok it) → (s : State) × IsToldOf s what status out out' err err'
+    pub some_told : IsReportAsked g old new subject form (Ok it) → (s : State) × IsToldOf s subject form status out out' err err'
     some_told (inl asked) = some_shown asked.shown asked.reported
     some_told (inr (same, is)) = absurd (cc)
 
-    state_shown : (s : State) → IsDurablyAt g old s → IsClean g new → (r : Result State StoreFault) → HasGivenRoster g old new what r → ReportsShown r what (Ok it)
-        → IsToldOf s what status out out' err err'
+    state_shown : (s : State) → IsDurablyAt g old s → IsClean g new → (r : Result State StoreFault) → HasGivenRoster g old new subject r → ReportsShown r subject form (Ok it)
+        → IsToldOf s subject form status out out' err err'
     state_shown s at clean (Ok roster) has is =
-        shown_told s what it status out out' err err' ((has.text s at clean (text_shown it)).0 is) prints
+        shown_told s subject form it status out out' err err' ((has.text s at clean form (text_shown it)).0 is) prints
     state_shown s at clean (Err fault) has is = absurd (cc)
 
-    pub state_told : (s : State) → IsDurablyAt g old s → IsClean g new → IsReportAsked g old new what (Ok it) → IsToldOf s what status out out' err err'
+    pub state_told : (s : State) → IsDurablyAt g old s → IsClean g new → IsReportAsked g old new subject form (Ok it) → IsToldOf s subject form status out out' err err'
     state_told s at clean (inl asked) = state_shown s at clean asked.shown asked.has_shown asked.reported
     state_told s at clean (inr (same, is)) = absurd (cc)
 
   -- the book is as it was
-  pub report_kept : (r : Result Shown AskFault) → IsReportAsked g old new what r → (s : State) → IsDurablyAt g old s → IsDurablyAt g new s
+  pub report_kept : (r : Result Shown AskFault) → IsReportAsked g old new subject form r → (s : State) → IsDurablyAt g old s → IsDurablyAt g new s
   report_kept r (inl asked) s at = asked.has_shown.call.kept s at
   report_kept r (inr (same, is)) s at = subst (λ (b : Kept S). IsDurablyAt g b s) (sym same) at
 
   -- ---- Where it stops
 
-  unshown : (out : ChannelBytes) (fault : AskFault) (r : Result State StoreFault) → HasGivenRoster g old new what r → ReportsShown r what (Err fault) → IsShowStopped new out out (stop_of fault)
+  unshown : (out : ChannelBytes) (fault : AskFault) (r : Result State StoreFault) → HasGivenRoster g old new subject r → ReportsShown r subject form (Err fault) → IsShowStopped new out out (stop_of fault)
   unshown out fault (Ok roster) has memory = not_of_book new out out (stop_of fault) (inl (ap stop_of memory))
   unshown out fault (Err met) has is =
       let at_book : fault ≡ ask.Book met = cc in
@@ -79,6 +80,6 @@ module _ {S : Type 0} (g : Ghosts S) (old new : Kept S) (what : Show) where
         failed = has_failed State met old.failed new.failed has.call.failed;
       })
 
-  pub report_stopped : (out : ChannelBytes) (fault : AskFault) → IsReportAsked g old new what (Err fault) → IsShowStopped new out out (stop_of fault)
+  pub report_stopped : (out : ChannelBytes) (fault : AskFault) → IsReportAsked g old new subject form (Err fault) → IsShowStopped new out out (stop_of fault)
   report_stopped out fault (inl asked) = unshown out fault asked.shown asked.has_shown asked.reported
   report_stopped out fault (inr (same, is)) = let memory : fault ≡ ask.Memory = cc in not_of_book new out out (stop_of fault) (inl (ap stop_of memory))

@@ -1,7 +1,6 @@
 -- What the program answers by the book that files hold, and what it leaves of them.
 use Rattle.std.specs.Prelude.{◌≡◌, ◌⊎◌, ⊤, ℕ, ◌+◌, true, false, Bool, List, [], ◌++◌, take}
-use Rattle.std.specs.Prelude.{Option, None, IfSome, IsSomeAnd, Result, Err, option_map}
-use Rattle.std.specs.Prelude.{string_bytes}
+use Rattle.std.specs.Prelude.{Option, None, IfSome, IsSomeAnd, Result, Err, string_bytes}
 use Rattle.std.specs.Io.KnownBytes.{Appends}
 use Rattle.sqlite_disk.specs.declared.Disk.{Ghosts}
 use Rattle.sqlite_store.specs.declared.store.FileStore.{FileStore}
@@ -12,8 +11,9 @@ use Rattle.roster.specs.Folds.{Asked, Fold, Replies, ReplyOrRefusal, import}
 use Rattle.roster.specs.State.{State, empty}
 use Rattle.codec.specs.Requests.{read_request}
 use Rattle.codec.specs.Schedule.{IsSchedule}
-use Rattle.store.specs.declared.show.Show.{Show}
-use Rattle.store.specs.declared.show.Show.TheVariants as show
+use Rattle.request.specs.Subjects.{subject_bytes}
+use Rattle.request.specs.declared.form.Form.{Form}
+use Rattle.request.specs.declared.subject.Subject.{Subject}
 use Rattle.entries.specs.Faults.{load_text}
 use Rattle.entries.specs.declared.fault.LoadFault.{LoadFault}
 use Rattle.book.specs.Calls.{AreCalls, Call}
@@ -22,9 +22,7 @@ use Rattle.book.specs.Kept.{IsDurablyAt, Kept}
 use Rattle.book.specs.Lives.{acknowledged, in_doubt}
 use Rattle.book.specs.declared.file.FilesLeft.{FilesLeft}
 use Rattle.console.specs.declared.actions.Action.{Action}
-use Rattle.console.specs.declared.actions.Action.TheVariants.{Init, Do, Import}
-use Rattle.console.specs.declared.actions.Action.TheVariants.{Roster, Limits, Pairing, Exceedances}
-use Rattle.console.specs.declared.actions.Action.TheVariants.{Members, Pairings, Serve}
+use Rattle.console.specs.declared.actions.Action.TheVariants.{Init, Do, Import, Report, Serve}
 use Rattle.asking.specs.Requests.{ReadRequest}
 use Rattle.http_exchange.specs.Exchange.{ChannelBytes}
 use Rattle.rosterbook.specs.Asking.{Answers, AreTold, IsNoSchedule, IsRequestReadAndTold}
@@ -33,7 +31,7 @@ use Rattle.rosterbook.specs.InLines.{AreRequestsTold, ReadsFirstLines, ReadsLine
 use Rattle.rosterbook.specs.InLines.{answers_in, commands_in, requests_of}
 use Rattle.rosterbook.specs.Program.{PerformsAction, exit_status}
 use Rattle.rosterbook.specs.Serving.{IsServeDone, IsServeStopped}
-use Rattle.rosterbook.specs.Showing.{IsToldOf, listed_by}
+use Rattle.rosterbook.specs.Showing.{IsToldOf}
 use Rattle.rosterbook.specs.Streams.{ReadsInput, refused_line}
 use Rattle.rosterbook.specs.declared.status.Status.{Status}
 use Rattle.rosterbook.specs.declared.status.Status.TheVariants.{Done, Failed}
@@ -212,11 +210,11 @@ module _ (By : Account) where
         × By (λ s. answers ≡ Replies s (import number plans))
         (λ s. Fold s (import number plans)))
 
-  -- what the state shows was printed, and nothing is done
-  pub record IsShownBy (what : Show) (out out' err err' : ChannelBytes)
-      (status : Status) : Type 0 where
-    pub some : (s : State) × IsToldOf s what status out out' err err'
-    pub by : By (λ s. IsToldOf s what status out out' err err') (λ s. s)
+  -- the state's report on this subject was printed in this form, and nothing is done
+  pub record IsShownBy (subject : Subject (List ℕ) (List ℕ)) (form : Form)
+      (out out' err err' : ChannelBytes) (status : Status) : Type 0 where
+    pub some : (s : State) × IsToldOf s subject form status out out' err err'
+    pub by : By (λ s. IsToldOf s subject form status out out' err err') (λ s. s)
 
 -- ---- The program
 
@@ -231,20 +229,8 @@ module _ {D : Type 0} {g : Ghosts D} (image : Image) (left : Option (FilesLeft D
       IsDoneAs (IsByFiles left image) dry_run lines held out out' err err' status
   PerformsByFiles (Import file number) status held out out' err err' =
       IsImportedBy (IsByFiles left image) number held out out' err err' status
-  PerformsByFiles (Roster file crew) status held out out' err err' =
-      IsShownBy (IsByFiles left image) (show.Crew (string_bytes crew)) out out' err err' status
-  PerformsByFiles (Limits file crew with) status held out out' err err' =
-      IsShownBy (IsByFiles left image)
-      (show.Limits (string_bytes crew) (option_map string_bytes with)) out out' err err' status
-  PerformsByFiles (Pairing file id) status held out out' err err' =
-      IsShownBy (IsByFiles left image) (show.Pairing (string_bytes id)) out out' err err' status
-  PerformsByFiles (Exceedances file) status held out out' err err' =
-      IsShownBy (IsByFiles left image) show.Exceedances out out' err err' status
-  PerformsByFiles (Members file) status held out out' err err' =
-      IsShownBy (IsByFiles left image) show.Members out out' err err' status
-  PerformsByFiles (Pairings file only_open) status held out out' err err' =
-      IsShownBy (IsByFiles left image) (show.Pairings (listed_by only_open)) out out' err err'
-      status
+  PerformsByFiles (Report file subject form) status held out out' err err' =
+      IsShownBy (IsByFiles left image) (subject_bytes subject) form out out' err err' status
   PerformsByFiles (Serve file port connections) status held out out' err err' =
       IsServedByFiles left image port connections out out' err err' status
   PerformsByFiles action status held out out' err err' =

@@ -1,16 +1,16 @@
 -- What the program answers: its exit status, and what it writes to standard output and standard
 -- error.
 use Rattle.std.specs.Prelude.{◌≡◌, ◌⊎◌, ℕ, Bool, true, false, List, [], ◌++◌, codes, map}
-use Rattle.std.specs.Prelude.{string_bytes, option_map, Result, Ok, Err}
+use Rattle.std.specs.Prelude.{string_bytes, Result, Ok, Err}
 use Rattle.std.specs.Io.KnownBytes.{Appends}
 use Rattle.time117.specs.Local.{is_zone_text}
 use Rattle.roster.specs.Folds.{ReplyOrRefusal}
 use Rattle.rosterbook.specs.Asking.{IsImportTold, IsRequestReadAndTold}
 use Rattle.rosterbook.specs.InLines.{AreRequestsTold, ReadsLines, requests_of}
 use Rattle.rosterbook.specs.Serving.{IsServeTold}
-use Rattle.rosterbook.specs.Showing.{IsToldOf, listed_by}
+use Rattle.rosterbook.specs.Showing.{IsToldOf}
 use Rattle.roster.specs.State.{State}
-use Rattle.store.specs.declared.show.Show.TheVariants as show
+use Rattle.request.specs.Subjects.{subject_bytes}
 use Rattle.period_verdict.specs.FaultText.{line_fault_text}
 use Rattle.http_exchange.specs.Exchange.{ChannelBytes}
 pub use Rattle.rosterbook.specs.Streams.{line_end, refused_line}
@@ -18,9 +18,7 @@ use Rattle.writing.specs.Faults.{create_text}
 use Rattle.writing.specs.declared.fault.CreateFault.{CreateFault}
 use Rattle.period_verdict.specs.Verdict.{VerdictLine, line_of}
 use Rattle.console.specs.declared.actions.Action.{Action}
-use Rattle.console.specs.declared.actions.Action.TheVariants.{Duty, Init, Do, Import, Roster}
-use Rattle.console.specs.declared.actions.Action.TheVariants.{Limits, Pairing, Exceedances, Members}
-use Rattle.console.specs.declared.actions.Action.TheVariants.{Pairings, Serve}
+use Rattle.console.specs.declared.actions.Action.TheVariants.{Duty, Init, Do, Import, Report, Serve}
 use Rattle.period_verdict.specs.declared.fault.LineFault.{LineFault}
 use Rattle.period_verdict.specs.declared.fault.LineFault.TheVariants.{Zone, Memory}
 use Rattle.rosterbook.specs.declared.status.Status.{Status}
@@ -110,20 +108,8 @@ PerformsAction (Do file dry_run lines) status held out out' err err' =
     IsDoTold lines held out out' status × (err' ≡ err)
 PerformsAction (Import file number) status held out out' err err' =
     IsImportTold held out out' err err' status
-PerformsAction (Roster file crew) status held out out' err err' =
-    (s : State) × IsToldOf s (show.Crew (string_bytes crew)) status out out' err err'
-PerformsAction (Limits file crew with) status held out out' err err' =
-    (s : State)
-    × IsToldOf s (show.Limits (string_bytes crew) (option_map string_bytes with)) status
-    out out' err err'
-PerformsAction (Pairing file id) status held out out' err err' =
-    (s : State) × IsToldOf s (show.Pairing (string_bytes id)) status out out' err err'
-PerformsAction (Exceedances file) status held out out' err err' =
-    (s : State) × IsToldOf s show.Exceedances status out out' err err'
-PerformsAction (Members file) status held out out' err err' =
-    (s : State) × IsToldOf s show.Members status out out' err err'
-PerformsAction (Pairings file only_open) status held out out' err err' =
-    (s : State) × IsToldOf s (show.Pairings (listed_by only_open)) status out out' err err'
+PerformsAction (Report file subject form) status held out out' err err' =
+    (s : State) × IsToldOf s (subject_bytes subject) form status out out' err err'
 PerformsAction (Serve file port connections) status held out out' err err' =
     IsServeTold port connections out out' err err' status
 

@@ -1,17 +1,15 @@
--- What `roster`, `limits`, `pairing`, `exceedances`, `members` and `pairings` print, and where they
--- stop.
-use Rattle.std.specs.Prelude.{◌≡◌, ◌⊎◌, IsTrue, ℕ, Bool, true, false, List, Result, Ok, Err}
+-- What a subcommand for a report prints, and where it stops.
+use Rattle.std.specs.Prelude.{◌≡◌, ◌⊎◌, IsTrue, ℕ, List, Result, Ok, Err}
 use Rattle.std.specs.Io.KnownBytes.{Appends}
 use Rattle.roster.specs.State.{State}
 use Rattle.state_rows.specs.declared.fault.StoreFault.TheVariants.{Store}
-use Rattle.list_report.specs.declared.pairings.Listed.{Listed}
-use Rattle.list_report.specs.declared.pairings.Listed.TheVariants.{All, Open}
 use Rattle.report.specs.Faults.{report_fault_text}
 use Rattle.report.specs.declared.fault.ReportFault.TheVariants.{NoSuchCrew, NoSuchPairing}
 use Rattle.book.specs.Kept.{Kept}
-use Rattle.store.specs.Shown.{Absence, no_crew, no_pairing, IsShown}
-use Rattle.store.specs.declared.show.Show.{Show}
-use Rattle.asking.specs.Reports.{text_shown}
+use Rattle.part.specs.Shown.{Absence, no_crew, no_pairing}
+use Rattle.request.specs.declared.form.Form.{Form}
+use Rattle.request.specs.declared.subject.Subject.{Subject}
+use Rattle.asking.specs.Reports.{IsShownAs, text_shown}
 use Rattle.asking.specs.declared.reports.Shown.{Shown}
 use Rattle.http_exchange.specs.Exchange.{ChannelBytes}
 use Rattle.rosterbook.specs.Streams.{IsOfChannel, refused_line}
@@ -20,11 +18,6 @@ use Rattle.rosterbook.specs.declared.status.Status.{Status}
 use Rattle.rosterbook.specs.declared.status.Status.TheVariants.{Done, Refused}
 use Rattle.rosterbook.specs.declared.stop.Stop.{Stop}
 use Rattle.rosterbook.specs.declared.stop.Stop.TheVariants.{Book}
-
--- which pairings `pairings` lists, by whether it is asked for the open ones
-abbrev pub listed_by : Bool → Listed
-listed_by true = Open
-listed_by false = All
 
 -- the text that reports that the member or the pairing isn't there
 abbrev pub absence_text : Absence → List ℕ
@@ -39,11 +32,11 @@ PrintsText (Ok text) status out out' err err' =
 PrintsText (Err absence) status out out' err err' =
     (status ≡ Refused) × (out' ≡ out) × Appends err err' (refused_line (absence_text absence))
 
--- what a state shows was printed
-pub record IsToldOf (s : State) (what : Show) (status : Status) (out out' err err' : ChannelBytes) :
-    Type 0 where
+-- a state's report on this subject was printed in this form
+pub record IsToldOf (s : State) (subject : Subject (List ℕ) (List ℕ)) (form : Form)
+    (status : Status) (out out' err err' : ChannelBytes) : Type 0 where
   pub shown : Result (List ℕ) Absence
-  pub is : IsShown s what shown
+  pub is : IsShownAs form s subject shown
   pub told : PrintsText shown status out out' err err'
 
 -- the program stopped while it showed a book; at a fault of the book nothing was printed

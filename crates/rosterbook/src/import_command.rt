@@ -15,7 +15,7 @@ use crate::status::Status;
 use crate::stop::Stop;
 use asking::{Listener, NotAllAsked, ask_schedule};
 use book::{Answer, Book};
-use request_number::RequestNumber;
+use request::RequestNumber;
 use sqlite::{Alter, FileFrom, Start};
 use std::alloc::Global;
 use std::io;

@@ -17,10 +17,7 @@ use crate::import_command::answer_import;
 use crate::init_command::answer_init;
 use crate::lines::refuse;
 use crate::serve_command::answer_serve;
-use crate::show_command::{
-    answer_exceedances, answer_limits, answer_members, answer_pairing, answer_pairings,
-    answer_roster,
-};
+use crate::show_command::answer_report;
 use crate::status::Status;
 use crate::stop::Stop;
 use book::FilesLeft;
@@ -127,16 +124,11 @@ fn answer_action<S: Start, R: Read, O: Write, E: Write>(
         Action::Import { file, number } => {
             answer_import(rt, file, start, *number, reader, out, err)
         }
-        Action::Roster { file, crew } => answer_roster(rt, file, start, crew, out, err),
-        Action::Limits { file, crew, with } => {
-            answer_limits(rt, file, start, crew, with.as_deref(), out, err)
-        }
-        Action::Pairing { file, pairing } => answer_pairing(rt, file, start, pairing, out, err),
-        Action::Exceedances { file } => answer_exceedances(rt, file, start, out, err),
-        Action::Members { file } => answer_members(rt, file, start, out, err),
-        Action::Pairings { file, only_open } => {
-            answer_pairings(rt, file, start, *only_open, out, err)
-        }
+        Action::Report {
+            file,
+            subject,
+            form,
+        } => answer_report(rt, file, start, subject.as_deref(), *form, out, err),
         Action::Serve {
             file,
             port,

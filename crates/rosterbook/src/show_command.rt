@@ -1,15 +1,13 @@
-//! `rosterbook roster`, `limits`, `pairing`, `exceedances`, `members` and `pairings`: a text by what a book shows.
-//! Worked texts: `tests/reports.py`. Wrong bodies: `must-fail-more/`.
+//! The subcommands for reports, such as `rosterbook roster`: a text, or JSON, by what a book shows.
+//! Worked texts: `tests/reports.py`, in JSON `tests/report_json.py`. Wrong bodies: `must-fail-more/`.
 ghost use Rattle.std.specs.Prelude.{◌≡◌, IfErr, IfOk, IsErr, None};
-ghost use Rattle.std.specs.Option.{option_copied};
 ghost use Rattle.sqlite_wal.specs.Files.{image_at};
 ghost use Rattle.std.specs.Io.KnownBytes.{Appends};
 ghost use Rattle.report.specs.Faults.{report_fault_text};
 ghost use Rattle.roster.specs.State.{State};
 ghost use Rattle.book.specs.Calls.{IsAfterCalls};
 ghost use Rattle.book.specs.Kept.{IsDurablyAt, IsClean};
-ghost use Rattle.asking.specs.Reports.{show_of};
-ghost use Rattle.store.specs.declared.show.Show.TheVariants as show;
+ghost use Rattle.request.specs.Subjects.{subject_copied};
 ghost use Rattle.rosterbook.specs.ByFiles.{AreLetGo, HaveSession, IsByFiles, IsRefusedAs, IsShownBy};
 ghost use Rattle.rosterbook.specs.Showing as spec;
 ghost use Rattle.rosterbook.specs.Streams.{IsOfChannel, refused_line};
@@ -18,167 +16,28 @@ use crate::ended::Ended;
 use crate::lines::{refuse, write_text};
 use crate::status::Status;
 use crate::stop::Stop;
-use asking::{Shown, Subject, ask_report};
+use asking::{Shown, ask_report};
 use book::Book;
-use list_report::Listed;
 use report::ReportFault;
+use request::{Form, Subject};
 use sqlite::{Alter, FileFrom, Start};
 use std::alloc::Global;
 use std::io::Write;
 
-/// Answers `rosterbook roster`.
-pub(crate) fn answer_roster<S: Start, O: Write, E: Write>(
+/// Answers a subcommand for a report: opens a book and shows it, and lets go of its files as they are. To close them would copy
+/// the log into the database.
+pub(crate) fn answer_report<S: Start, O: Write, E: Write>(
     rt: &HostRuntime,
     file: &str,
     start: S,
-    crew: &str,
+    subject: Subject<&str, &str>,
+    form: Form,
     out: &mut O,
     err: &mut E,
 ) -> Ended<FileFrom<S>>
     ensures done { IfOk result.done
-        (IsShownBy (IsByFiles result.left (image_at S.Start)) (show.Crew crew.now)
-        (O.contents out.old) (O.contents out.new) (E.contents err.old) (E.contents err.new)) }
-    ensures left { AreLetGo result.left (image_at S.Start) }
-    ensures session { HaveSession result.left (image_at S.Start) }
-    ensures unopened { result.left ≡ None
-        → IsErr result.done × (out.new ≡ out.old) × (err.new ≡ err.old) }
-    ensures refused { IsRefusedAs result.left (image_at S.Start) result.refused result.done }
-{
-    show_file(rt, file, start, Subject::Crew(crew), out, err)
-}
-
-/// Answers `rosterbook limits`.
-pub(crate) fn answer_limits<S: Start, O: Write, E: Write>(
-    rt: &HostRuntime,
-    file: &str,
-    start: S,
-    crew: &str,
-    with: Option<&str>,
-    out: &mut O,
-    err: &mut E,
-) -> Ended<FileFrom<S>>
-    ensures done { IfOk result.done (IsShownBy (IsByFiles result.left (image_at S.Start))
-        (show.Limits crew.now (option_copied with.entry)) (O.contents out.old)
-        (O.contents out.new) (E.contents err.old) (E.contents err.new)) }
-    ensures left { AreLetGo result.left (image_at S.Start) }
-    ensures session { HaveSession result.left (image_at S.Start) }
-    ensures unopened { result.left ≡ None
-        → IsErr result.done × (out.new ≡ out.old) × (err.new ≡ err.old) }
-    ensures refused { IsRefusedAs result.left (image_at S.Start) result.refused result.done }
-{
-    show_file(rt, file, start, Subject::Limits { crew, with }, out, err)
-}
-
-/// Answers `rosterbook pairing`.
-pub(crate) fn answer_pairing<S: Start, O: Write, E: Write>(
-    rt: &HostRuntime,
-    file: &str,
-    start: S,
-    pairing: &str,
-    out: &mut O,
-    err: &mut E,
-) -> Ended<FileFrom<S>>
-    ensures done { IfOk result.done
-        (IsShownBy (IsByFiles result.left (image_at S.Start)) (show.Pairing pairing.now)
-        (O.contents out.old) (O.contents out.new) (E.contents err.old) (E.contents err.new)) }
-    ensures left { AreLetGo result.left (image_at S.Start) }
-    ensures session { HaveSession result.left (image_at S.Start) }
-    ensures unopened { result.left ≡ None
-        → IsErr result.done × (out.new ≡ out.old) × (err.new ≡ err.old) }
-    ensures refused { IsRefusedAs result.left (image_at S.Start) result.refused result.done }
-{
-    show_file(rt, file, start, Subject::Pairing(pairing), out, err)
-}
-
-/// Answers `rosterbook exceedances`.
-pub(crate) fn answer_exceedances<S: Start, O: Write, E: Write>(
-    rt: &HostRuntime,
-    file: &str,
-    start: S,
-    out: &mut O,
-    err: &mut E,
-) -> Ended<FileFrom<S>>
-    ensures done { IfOk result.done
-        (IsShownBy (IsByFiles result.left (image_at S.Start)) show.Exceedances
-        (O.contents out.old) (O.contents out.new) (E.contents err.old) (E.contents err.new)) }
-    ensures left { AreLetGo result.left (image_at S.Start) }
-    ensures session { HaveSession result.left (image_at S.Start) }
-    ensures unopened { result.left ≡ None
-        → IsErr result.done × (out.new ≡ out.old) × (err.new ≡ err.old) }
-    ensures refused { IsRefusedAs result.left (image_at S.Start) result.refused result.done }
-{
-    show_file(rt, file, start, Subject::Exceedances, out, err)
-}
-
-/// Answers `rosterbook members`.
-pub(crate) fn answer_members<S: Start, O: Write, E: Write>(
-    rt: &HostRuntime,
-    file: &str,
-    start: S,
-    out: &mut O,
-    err: &mut E,
-) -> Ended<FileFrom<S>>
-    ensures done { IfOk result.done
-        (IsShownBy (IsByFiles result.left (image_at S.Start)) show.Members
-        (O.contents out.old) (O.contents out.new) (E.contents err.old) (E.contents err.new)) }
-    ensures left { AreLetGo result.left (image_at S.Start) }
-    ensures session { HaveSession result.left (image_at S.Start) }
-    ensures unopened { result.left ≡ None
-        → IsErr result.done × (out.new ≡ out.old) × (err.new ≡ err.old) }
-    ensures refused { IsRefusedAs result.left (image_at S.Start) result.refused result.done }
-{
-    show_file(rt, file, start, Subject::Members, out, err)
-}
-
-/// Answers `rosterbook pairings`.
-pub(crate) fn answer_pairings<S: Start, O: Write, E: Write>(
-    rt: &HostRuntime,
-    file: &str,
-    start: S,
-    only_open: bool,
-    out: &mut O,
-    err: &mut E,
-) -> Ended<FileFrom<S>>
-    ensures done { IfOk result.done
-        (IsShownBy (IsByFiles result.left (image_at S.Start))
-        (show.Pairings (spec.listed_by only_open))
-        (O.contents out.old) (O.contents out.new) (E.contents err.old) (E.contents err.new)) }
-    ensures left { AreLetGo result.left (image_at S.Start) }
-    ensures session { HaveSession result.left (image_at S.Start) }
-    ensures unopened { result.left ≡ None
-        → IsErr result.done × (out.new ≡ out.old) × (err.new ≡ err.old) }
-    ensures refused { IsRefusedAs result.left (image_at S.Start) result.refused result.done }
-{
-    show_file(
-        rt,
-        file,
-        start,
-        Subject::Pairings(listed_by(only_open)),
-        out,
-        err,
-    )
-}
-
-/// Returns which pairings are listed: those with a free seat, or all.
-fn listed_by(only_open: bool) -> Listed
-    ensures { result ≡ spec.listed_by only_open }
-{
-    if only_open { Listed::Open } else { Listed::All }
-}
-
-/// Opens a book and shows it, and lets go of its files as they are: to close them would copy the log into
-/// the database.
-fn show_file<S: Start, O: Write, E: Write>(
-    rt: &HostRuntime,
-    file: &str,
-    start: S,
-    what: Subject<'_>,
-    out: &mut O,
-    err: &mut E,
-) -> Ended<FileFrom<S>>
-    ensures done { IfOk result.done
-        (IsShownBy (IsByFiles result.left (image_at S.Start)) (show_of what.entry)
-        (O.contents out.old) (O.contents out.new) (E.contents err.old) (E.contents err.new)) }
+        (IsShownBy (IsByFiles result.left (image_at S.Start)) (subject_copied subject.entry)
+        form (O.contents out.old) (O.contents out.new) (E.contents err.old) (E.contents err.new)) }
     ensures left { AreLetGo result.left (image_at S.Start) }
     ensures session { HaveSession result.left (image_at S.Start) }
     ensures unopened { result.left ≡ None
@@ -187,7 +46,7 @@ fn show_file<S: Start, O: Write, E: Write>(
 {
     match Book::open_from(rt, file, start) {
         Ok(mut book) => {
-            let done = show_text(rt.alloc(), &mut book, what, out, err);
+            let done = show_text(rt.alloc(), &mut book, subject, form, out, err);
             Ended {
                 done,
                 left: Some(book.leave()),
@@ -198,26 +57,28 @@ fn show_file<S: Start, O: Write, E: Write>(
     }
 }
 
-/// Prints the text of a member, of a member's limits, of a pairing, of the exceedances or of a list by what a book shows, or reports
-/// that the member or the pairing isn't there (2, 4). An id outside its shape names nothing. The book is as it was.
+/// Prints a report in a form by what a book shows, or reports that the member or the pairing isn't there (2, 4). The book is as
+/// it was.
 pub fn show_text<S: Alter, O: Write, E: Write>(
     alloc: Global,
     book: &mut Book<S>,
-    what: Subject<'_>,
+    subject: Subject<&str, &str>,
+    form: Form,
     out: &mut O,
     err: &mut E,
 ) -> Result<Status, Stop>
-    ensures some { IfOk result (λ status. (s : State) × spec.IsToldOf s (show_of what.entry) status
+    ensures some { IfOk result
+        (λ status. (s : State) × spec.IsToldOf s (subject_copied subject.entry) form status
         (O.contents out.old) (O.contents out.new) (E.contents err.old) (E.contents err.new)) }
     ensures told { (s : State) → IsDurablyAt S.Store book.old s → IsClean S.Store book.new
-        → IfOk result (λ status. spec.IsToldOf s (show_of what.entry) status (O.contents out.old)
-        (O.contents out.new) (E.contents err.old) (E.contents err.new)) }
+        → IfOk result (λ status. spec.IsToldOf s (subject_copied subject.entry) form status
+        (O.contents out.old) (O.contents out.new) (E.contents err.old) (E.contents err.new)) }
     ensures kept { (s : State) → IsDurablyAt S.Store book.old s → IsDurablyAt S.Store book.new s }
     ensures stopped { IfErr result
         (λ stop. spec.IsShowStopped book.new (O.contents out.old) (O.contents out.new) stop) }
     ensures calls { IsAfterCalls S.Store book.old book.new }
 {
-    let shown = ask_report(alloc, book, what)?;
+    let shown = ask_report(alloc, book, subject, form)?;
     print_shown(&shown, out, err)
 }
 

@@ -1,6 +1,7 @@
 -- What a part that was gathered says.
-use Rattle.std.proofs.Common.{◌≡◌, ◌⊎◌, inl, inr, sym, ap, subst, ◌∙◌, Result, Ok, Err, IfErr, IfOk}
+use Rattle.std.proofs.Common.{◌≡◌, ◌⊎◌, ◌↔◌, inl, inr, sym, ap, subst, ◌∙◌, ℕ, List, Result, Ok, Err, IfErr, IfOk}
 use Rattle.sqlite.specs.State.{State, HasCleanDisk}
+use Rattle.request.specs.declared.subject.Subject.{Subject}
 use Rattle.command.specs.Keys.{KeyParts}
 use Rattle.command.specs.declared.instruction.Instruction.{Instruction}
 use Rattle.roster.specs.Sound.{Sound}
@@ -9,7 +10,9 @@ use Rattle.roster.specs.Steps.{step_of}
 use Rattle.state_rows.specs.declared.fault.StoreFault.{StoreFault}
 use Rattle.state_rows.specs.declared.fault.StoreFault.TheVariants.{Memory}
 use Rattle.part.specs.Part.{Part}
+use Rattle.part.specs.Shown.{Absence, IsShown, shown_part}
 use Rattle.part.proofs.Answers.{answers_as_whole}
+use Rattle.part.proofs.ShownAlike.{part_is_shown_alike}
 use Rattle.part.proofs.SoundParts.{part_is_sound}
 use Rattle.lookup.proofs.Causes.{memory_fault}
 use Rattle.lookup.specs.Reads.{IsReadFault, Shows}
@@ -35,6 +38,12 @@ module _ {A : Type 0} (Is : roster.State → A → Type 0) (old new : State) (re
     (s : roster.State) (shows : Shows old s) (clean : HasCleanDisk new) where
   pub is_told : IfOk result (Is s)
   is_told = on_ok result (told clean s shows) (λ a it. it.1)
+
+-- of the part that is gathered for a text the same is shown as of the state
+pub shown_alike : {E : Type 0} (what : Subject (List ℕ) (List ℕ)) (s : roster.State) (result : Result roster.State E) → IfOk result (λ r. r ≡ shown_part s what)
+    → IfOk result (λ r. (answer : Result (List ℕ) Absence) → IsShown r what answer ↔ IsShown s what answer)
+shown_alike what s result is =
+    on_ok result is (λ r same. subst (λ (x : roster.State). (answer : Result (List ℕ) Absence) → IsShown x what answer ↔ IsShown s what answer) (sym same) (part_is_shown_alike s what))
 
 -- a fault of a gathering is one of a read, or out of memory
 pub read_fault : {A : Type 0} (M : Type 0) (old new : State) (result : Result A StoreFault) → IfErr result (λ fault. IsReadFault old new fault ⊎ ((none : M) × (fault ≡ Memory))) → IfErr result (IsReadFault old new)

@@ -1,5 +1,4 @@
 pub mod Found
 pub mod Typed
-pub mod Shown
 pub mod Loaded
 pub mod Reading

@@ -8,6 +8,7 @@ ghost use Rattle.roster.specs.Sound.{Sound};
 ghost use Rattle.roster.specs.State.{State, empty};
 ghost use Rattle.roster.specs.Steps.{step_of};
 ghost use Rattle.part.specs.Part.{Part};
+ghost use Rattle.part.specs.Shown.{Absence, IsShown, shown_part};
 ghost use Rattle.lookup.specs.Reads.{ChangesNothing, IsOpen, IsReadFault, Shows};
 ghost use Rattle.writing.specs.Commits.{IsCommitted, AreTablesMade, IsNotMade};
 ghost use Rattle.writing.specs.Making.{IsFree};
@@ -15,16 +16,12 @@ ghost use Rattle.state_rows.specs.Outcomes.{CrashLeavesSome, CrashAddsNothing, I
 ghost use Rattle.state_rows.specs.Requests.{Requests};
 ghost use Rattle.store.specs.Loaded.{IsLoaded, IsNotLoaded, ShowsWhatIsLeft};
 ghost use Rattle.store.specs.Reading.{IsBookRead};
-ghost use Rattle.store.specs.Shown.{Absence, IsShown, shown_part};
 
 use crate::show::Show;
 use command::{Command, Key};
 use entries::LoadFault;
 use loading::read_all;
-use part::{
-    gather, gather_crew, gather_exceedances, gather_limits, gather_member, gather_pairing,
-    gather_pairings, judge,
-};
+use part::{gather, gather_shown, judge};
 use roster::{Change, Roster, Verdict};
 use sqlite::{Alter, Connection};
 use state_rows::{Edition, StoreFault};
@@ -166,14 +163,7 @@ impl<S: Alter> Store<S> {
         ensures opened { OnOk result (IsOpen (state S.Store self.new)) }
         ensures some_left { CrashLeavesSome (state S.Store self.new) }
     {
-        let shown = match what {
-            Show::Crew(who) => gather_member(alloc, self, who),
-            Show::Limits { crew, with } => gather_limits(alloc, self, crew, with.as_ref()),
-            Show::Pairing(id) => gather_pairing(alloc, self, id),
-            Show::Exceedances => gather_exceedances(alloc, self),
-            Show::Members => gather_crew(alloc, self),
-            Show::Pairings(_) => gather_pairings(alloc, self),
-        };
+        let shown = gather_shown(alloc, self, what);
         // As in `part`.
         let _live = self.conn.schema();
         shown

@@ -13,7 +13,7 @@ use Rattle.waiting.specs.Whole.{AsksTheSame, HasWaitingHead, IsKnown, IsWhole}
 -- a body that has come whole asks the same, whatever follows
 asks_the_same : (step : Step) (rest : List ℕ) → body_length step ≤ length rest → AsksTheSame step rest
 asks_the_same (refuse fault) rest enough more = refl
-asks_the_same (show what) rest enough more = refl
+asks_the_same (show what form) rest enough more = refl
 asks_the_same (receive expected) rest enough more =
     let here : nat_lt (length rest) expected.length ≡ false = grind (arith, nat_tests) in
     let there : nat_lt (length (rest ++ more)) expected.length ≡ false = grind (arith, nat_tests, length-append rest more) in

@@ -28,24 +28,24 @@ use Rattle.book.specs.Calls.{HasRead, IsAfterCalls}
 use Rattle.book.specs.Kept as kept
 use Rattle.book.specs.Kept.{HasTablesOf, IsDurablyAt, IsClean, IsInDoubt, Kept, StillHasTables, result_of}
 use Rattle.book.proofs.States.{one_of_either}
-use Rattle.store.specs.Shown.{Absence, no_crew, no_pairing, IsShown}
+use Rattle.part.specs.Shown.{Absence, no_crew, no_pairing}
 use Rattle.book.specs.declared.answer.Answer as book
-use Rattle.store.specs.declared.show.Show.{Show}
 use Rattle.asking.specs.Answers.{IsOrMemory, Reports, ReportsUnread, answer_json, answer_kind, refusal_kind}
-use Rattle.asking.specs.Reports.{HasGivenRoster, IsReportAsked, ReportsShown}
+use Rattle.asking.specs.Reports.{HasGivenRoster, IsReportAsked, IsShownAs, ReportsShown}
 use Rattle.asking.specs.Requests.{HasChecked, IsCheckedAsRead, IsDoneAsRead, IsRequestAsked, IsRequestChecked, ReadRequest, asked_as}
 use Rattle.asking.specs.declared.answers.AskFault.{AskFault}
 use Rattle.asking.specs.declared.answers.AskFault.TheVariants as ask
 use Rattle.asking.specs.declared.answers.JsonAnswer.{JsonAnswer}
 use Rattle.asking.specs.declared.reports.Shown.{Shown}
 use Rattle.asking.specs.declared.reports.Shown.TheVariants.{Text, NoSuchCrew, NoSuchPairing}
-use Rattle.http_message.specs.Plan.{Subject}
+use Rattle.request.specs.declared.form.Form.{Form}
+use Rattle.request.specs.declared.subject.Subject.{Subject}
 use Rattle.http_message.specs.declared.plan.Submission.TheVariants.{Command, Check, Import}
 use Rattle.http_exchange.specs.Handler as http
 use Rattle.http_exchange.specs.Handler.{StatusText, submit}
 use Rattle.http_exchange.specs.declared.handler.HandlerFault.{HandlerFault}
 use Rattle.http_exchange.specs.declared.handler.HandlerFault.TheVariants.{Store, Memory}
-use Rattle.web.specs.Acts.{Commands, show_of_path}
+use Rattle.web.specs.Acts.{Commands}
 use Rattle.web.specs.Answers.{IsInJsonUnder, IsResponseToReport, TellsAnswer, answer_status, command_answer, fault_answer, handler_fault_of, json, parts_answer, refusal_status, report_answer, response_to_command, status_of_kind}
 use Rattle.web.specs.Handling.{HoldsWhateverIsAsked, IsHandled, IsLeftByCommands, answers_store_fault}
 use Rattle.web.specs.Serving.{StillMeans}
@@ -175,29 +175,30 @@ tells_text status (Err f) text told is tells = subst (TellsAnswer (json status t
 
 -- ---- what is said of a report
 
--- the report of a roster is the answer, if there was memory for it
-abbrev IsReported : State → Show → Result StatusText HandlerFault → Type 0
-IsReported s what (Ok answer) = (shown : Result (List ℕ) Absence) × IsShown s what shown × (answer ≡ report_answer shown)
-IsReported s what (Err Store) = ⊥
-IsReported s what (Err Memory) = ⊤
+module _ (what : Subject (List ℕ) (List ℕ)) (form : Form) where
+  -- the report of a roster is the answer, if there was memory for it
+  abbrev IsReported : State → Result StatusText HandlerFault → Type 0
+  IsReported s (Ok answer) = (shown : Result (List ℕ) Absence) × IsShownAs form s what shown × (answer ≡ report_answer form shown)
+  IsReported s (Err Store) = ⊥
+  IsReported s (Err Memory) = ⊤
 
--- what a book shows, or its fault
-abbrev IsReportToldAs : Result State StoreFault → Show → Result StatusText HandlerFault → Type 0
-IsReportToldAs (Ok roster) what told = IsReported roster what told
-IsReportToldAs (Err fault) what told = told ≡ Err (handler_fault_of (ask.Book fault))
+  -- what a book shows, or its fault
+  abbrev IsReportToldAs : Result State StoreFault → Result StatusText HandlerFault → Type 0
+  IsReportToldAs (Ok roster) told = IsReported roster told
+  IsReportToldAs (Err fault) told = told ≡ Err (handler_fault_of (ask.Book fault))
 
-report_told : (what : Show) (shown : Result State StoreFault) (r : Result Shown AskFault) (told : Result StatusText HandlerFault) → ReportsShown shown what r → IsResponseToReport r told
-    → IsReportToldAs shown what told
-report_told what (Err fault) r told is tells = subst (λ (r : Result Shown AskFault). IsResponseToReport r told) is tells
-report_told what (Ok roster) (Ok (Text text)) told is tells = subst (IsReported roster what) (sym tells) (Ok (string_bytes text), is, refl)
-report_told what (Ok roster) (Ok NoSuchCrew) (Ok answer) is tells = (Err no_crew, is, tells)
-report_told what (Ok roster) (Ok NoSuchCrew) (Err Store) is tells = tells
-report_told what (Ok roster) (Ok NoSuchCrew) (Err Memory) is tells = tt
-report_told what (Ok roster) (Ok NoSuchPairing) (Ok answer) is tells = (Err no_pairing, is, tells)
-report_told what (Ok roster) (Ok NoSuchPairing) (Err Store) is tells = tells
-report_told what (Ok roster) (Ok NoSuchPairing) (Err Memory) is tells = tt
-report_told what (Ok roster) (Err f) told is tells =
-    subst (IsReported roster what) (sym (tells ∙ ap (λ (f : AskFault). Err (handler_fault_of f)) is)) tt
+  report_told : (shown : Result State StoreFault) (r : Result Shown AskFault) (told : Result StatusText HandlerFault) → ReportsShown shown what form r → IsResponseToReport form r told
+      → IsReportToldAs shown told
+  report_told (Err fault) r told is tells = subst (λ (r : Result Shown AskFault). IsResponseToReport form r told) is tells
+  report_told (Ok roster) (Ok (Text text)) told is tells = subst (IsReported roster) (sym tells) (Ok (string_bytes text), is, refl)
+  report_told (Ok roster) (Ok NoSuchCrew) (Ok answer) is tells = (Err no_crew, is, tells)
+  report_told (Ok roster) (Ok NoSuchCrew) (Err Store) is tells = tells
+  report_told (Ok roster) (Ok NoSuchCrew) (Err Memory) is tells = tt
+  report_told (Ok roster) (Ok NoSuchPairing) (Ok answer) is tells = (Err no_pairing, is, tells)
+  report_told (Ok roster) (Ok NoSuchPairing) (Err Store) is tells = tells
+  report_told (Ok roster) (Ok NoSuchPairing) (Err Memory) is tells = tt
+  report_told (Ok roster) (Err f) told is tells =
+      subst (IsReported roster) (sym (tells ∙ ap (λ (f : AskFault). Err (handler_fault_of f)) is)) tt
 
 -- ---- what was asked of a book
 
@@ -367,14 +368,14 @@ module _ {S : Type 0} (g : Ghosts S) (old new : Kept S) where
 
   -- ---- reports
 
-  module _ (about : Subject) (calls : IsAfterCalls g old new) where
-    reported_by : (r : Result State StoreFault) (told : Result StatusText HandlerFault) → IsReportToldAs r (show_of_path about) told
-        → HasGivenRoster g old new (show_of_path about) r → IsHandled g old new (http.show about) told
+  module _ (about : Subject (List ℕ) (List ℕ)) (form : Form) (calls : IsAfterCalls g old new) where
+    reported_by : (r : Result State StoreFault) (told : Result StatusText HandlerFault) → IsReportToldAs about form r told
+        → HasGivenRoster g old new about r → IsHandled g old new (http.show about form) told
     reported_by (Ok roster) (Ok answer) tells it = record {
       kept = kept_so calls (Ok roster) it.call (Ok answer) refl;
       shut = λ f. none_answered roster (it.call.shut f).0;
       done = λ s at. (
-        (λ c. (tells.0, (it.text s at c tells.0).0 tells.1, tells.2)),
+        (λ c. (tells.0, (it.text s at c form tells.0).0 tells.1, tells.2)),
         ([], refl, (it.call.kept s at, λ t. it.tables s at t)),
       );
     }
@@ -384,21 +385,21 @@ module _ {S : Type 0} (g : Ghosts S) (old new : Kept S) where
       shut = λ _. tt;
       done = λ s at. inr ([], refl, (0, it.call.kept s at, λ t. still_means g old new s (it.tables s at t)));
     }
-    reported_by (Err fault.Store) told tells it = subst (IsHandled g old new (http.show about)) (sym tells) (record {
+    reported_by (Err fault.Store) told tells it = subst (IsHandled g old new (http.show about form)) (sym tells) (record {
       kept = kept_so calls (Err fault.Store) it.call (Err Store) refl;
       shut = λ _. tt;
       done = λ s at. ([], refl, (0, one_of_either (state g new.held) s s (it.call.kept s at)));
     })
-    reported_by (Err fault.Memory) told tells it = subst (IsHandled g old new (http.show about)) (sym tells) (record {
+    reported_by (Err fault.Memory) told tells it = subst (IsHandled g old new (http.show about form)) (sym tells) (record {
       kept = kept_so calls (Err fault.Memory) it.call (Err Memory) refl;
       shut = λ _. tt;
       done = λ s at. inr ([], refl, (0, it.call.kept s at, λ t. (shows calls (Err fault.Memory) it.call s t, it.call.unchanged.still_open)));
     })
 
-    pub report_handled : (r : Result Shown AskFault) (told : Result StatusText HandlerFault) → IsReportAsked g old new (show_of_path about) r → IsResponseToReport r told
-        → IsHandled g old new (http.show about) told
-    report_handled r told (inl asked) tells = reported_by asked.shown told (report_told (show_of_path about) asked.shown r told asked.reported tells) asked.has_shown
+    pub report_handled : (r : Result Shown AskFault) (told : Result StatusText HandlerFault) → IsReportAsked g old new about form r → IsResponseToReport form r told
+        → IsHandled g old new (http.show about form) told
+    report_handled r told (inl asked) tells = reported_by asked.shown told (report_told about form asked.shown r told asked.reported tells) asked.has_shown
     report_handled r told (inr (same, is)) tells =
-        let memory : told ≡ Err Memory = subst (λ (r : Result Shown AskFault). IsResponseToReport r told) is tells in
-        subst (λ (b : Kept S). IsHandled g old b (http.show about) told) (sym same)
-        (subst (IsHandled g old old (http.show about)) (sym memory) (no_memory g old (http.show about)))
+        let memory : told ≡ Err Memory = subst (λ (r : Result Shown AskFault). IsResponseToReport form r told) is tells in
+        subst (λ (b : Kept S). IsHandled g old b (http.show about form) told) (sym same)
+        (subst (IsHandled g old old (http.show about form)) (sym memory) (no_memory g old (http.show about form)))

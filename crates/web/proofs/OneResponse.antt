@@ -1,27 +1,20 @@
 -- An input has one response in a state.
-use Rattle.std.proofs.Common.{◌≡◌, ◌∙◌, ap, sym, subst, refl, inl, inr, ℕ, Bool, List, Option, Result, Ok, Err, IsSome}
-use Rattle.std.proofs.lemmas.Option.{same_Some}
+use Rattle.std.proofs.Common.{◌≡◌, ◌∙◌, ap, sym, subst, refl, inl, inr, ℕ, Bool, List, Option, Result, Ok, Err}
 use Rattle.httparse.proofs.GrammarLemmas.{request_unique}
 use Rattle.codec.proofs.OneReading.{has_no_fault, has_one_fault, is_of_one_list}
 use Rattle.stored_json.specs.declared.fault.CodecFault.TheVariants.{BadCsv}
-use Rattle.limits_report.proofs.OneText.{one_text as one_limits_text}
-use Rattle.list_report.proofs.OneText.{one_pairings_text}
-use Rattle.list_report.specs.declared.pairings.Listed.{Listed}
-use Rattle.list_report.specs.declared.pairings.Listed.TheVariants.{All, Open}
-use Rattle.store.specs.declared.show.Show.TheVariants as show
-use Rattle.report.proofs.OneText.{one_exceedance_text, one_roster}
+use Rattle.asking.proofs.ShownAs.{one_shown_as}
 use Rattle.roster.specs.Folds.{Replies, import}
 use Rattle.roster.specs.State.{State}
-use Rattle.store.specs.Shown.{Absence, no_crew, no_pairing, IsShown}
 use Rattle.http_message.specs.Heading.{heading}
-use Rattle.http_message.specs.Plan.{Planned, Subject, crew, limits, pairing, exceedances, members, pairings, open_pairings, plan_for_head}
+use Rattle.http_message.specs.Plan.{Planned, plan_for_head}
 use Rattle.http_message.specs.declared.plan.Submission.TheVariants.{Command, Check, Import}
 use Rattle.http_message.specs.declared.refusals.RequestFault.{RequestFault}
 use Rattle.http_exchange.specs.Exchange.{asks}
 use Rattle.http_exchange.specs.Final.{Final, of_answer}
 use Rattle.http_exchange.specs.Handler as http
 use Rattle.http_exchange.specs.Handler.{StatusText, submit}
-use Rattle.web.specs.Acts.{Asks, Commands, IsAnswer, show_of_path}
+use Rattle.web.specs.Acts.{Asks, Commands, IsAnswer}
 use Rattle.web.specs.Answers.{fault_answer, parts_answer, report_answer}
 use Rattle.web.specs.Laws.{HasOneResponse}
 use Rattle.web.specs.Response.{IsFinal, IsResponseTo, WholeResponse}
@@ -38,7 +31,7 @@ one_list : (asked : http.HandlerRequest) (a b : Commands) → Asks asked a → A
 one_list (submit Command body) a b is is' = is ∙ sym is'
 one_list (submit Check body) a b is is' = is ∙ sym is'
 one_list (submit (Import number) body) a b is is' = one_import number body a b is is'
-one_list (http.show what) a b is is' = is ∙ sym is'
+one_list (http.show what form) a b is is' = is ∙ sym is'
 
 -- ---- the answer
 
@@ -51,50 +44,12 @@ module _ (s : State) where
   one_schedule_answer number body a b (inr (line, at_fault, told)) (inr (line', at_fault', told')) =
       told ∙ ap (λ n. fault_answer (BadCsv n)) (has_one_fault body line line' at_fault at_fault') ∙ sym told'
 
-  one_list_text : (which : Listed) (a b : Result (List ℕ) Absence) → IsShown s (show.Pairings which) a → IsShown s (show.Pairings which) b → a ≡ b
-  one_list_text which (Ok a) (Ok b) is is' = ap Ok (one_pairings_text s which a b is is')
-  one_list_text which (Ok a) (Err absence) is is' = absurd is'
-  one_list_text which (Err absence) b is is' = absurd is
-
-  one_text : (what : Subject) (a b : Result (List ℕ) Absence) → IsShown s (show_of_path what) a → IsShown s (show_of_path what) b → a ≡ b
-  one_text (crew id) (Ok a) (Ok b) is is' = ap Ok (one_roster s id a b is is')
-  one_text (crew id) (Ok a) (Err no_crew) is is' = let never = sym is.is_there ∙ is' in absurd cc
-  one_text (crew id) (Ok a) (Err no_pairing) is is' = absurd is'
-  one_text (crew id) (Err no_crew) (Ok b) is is' = let never = sym is'.is_there ∙ is in absurd cc
-  one_text (crew id) (Err no_crew) (Err no_crew) is is' = refl
-  one_text (crew id) (Err no_crew) (Err no_pairing) is is' = absurd is'
-  one_text (crew id) (Err no_pairing) b is is' = absurd is
-  one_text (limits id named) (Ok a) (Ok b) is is' = ap Ok (one_limits_text s id named a b is is')
-  one_text (limits id named) (Ok a) (Err no_crew) is is' = let never = sym is.is_there ∙ is' in absurd cc
-  one_text (limits id named) (Ok a) (Err no_pairing) is is' = let never = sym is.are_judged ∙ is'.1 in absurd cc
-  one_text (limits id named) (Err no_crew) (Ok b) is is' = let never = sym is'.is_there ∙ is in absurd cc
-  one_text (limits id named) (Err no_crew) (Err no_crew) is is' = refl
-  one_text (limits id named) (Err no_crew) (Err no_pairing) is is' = let never = subst IsSome is is'.0 in absurd cc
-  one_text (limits id named) (Err no_pairing) (Ok b) is is' = let never = sym is'.are_judged ∙ is.1 in absurd cc
-  one_text (limits id named) (Err no_pairing) (Err no_crew) is is' = let never = subst IsSome is' is.0 in absurd cc
-  one_text (limits id named) (Err no_pairing) (Err no_pairing) is is' = refl
-  one_text (pairing id) (Ok a) (Ok b) is is' = ap Ok (same_Some a b (sym is ∙ is'))
-  one_text (pairing id) (Ok a) (Err no_crew) is is' = absurd is'
-  one_text (pairing id) (Ok a) (Err no_pairing) is is' = let never = sym is ∙ is' in absurd cc
-  one_text (pairing id) (Err no_crew) b is is' = absurd is
-  one_text (pairing id) (Err no_pairing) (Ok b) is is' = let never = sym is ∙ is' in absurd cc
-  one_text (pairing id) (Err no_pairing) (Err no_crew) is is' = absurd is'
-  one_text (pairing id) (Err no_pairing) (Err no_pairing) is is' = refl
-  one_text exceedances (Ok a) (Ok b) is is' = ap Ok (one_exceedance_text s a b is is')
-  one_text exceedances (Ok a) (Err absence) is is' = absurd is'
-  one_text exceedances (Err absence) b is is' = absurd is
-  one_text members (Ok a) (Ok b) is is' = ap Ok (is ∙ sym is')
-  one_text members (Ok a) (Err absence) is is' = absurd is'
-  one_text members (Err absence) b is is' = absurd is
-  one_text pairings a b is is' = one_list_text All a b is is'
-  one_text open_pairings a b is is' = one_list_text Open a b is is'
-
   one_answer : (asked : http.HandlerRequest) (a b : StatusText) → IsAnswer s asked a → IsAnswer s asked b → a ≡ b
   one_answer (submit Command body) a b is is' = is ∙ sym is'
   one_answer (submit Check body) a b is is' = is ∙ sym is'
   one_answer (submit (Import number) body) a b is is' = one_schedule_answer number body a b is is'
-  one_answer (http.show what) a b (shown, is, told) (shown', is', told') =
-      told ∙ ap report_answer (one_text what shown shown' is is') ∙ sym told'
+  one_answer (http.show what form) a b (shown, is, told) (shown', is', told') =
+      told ∙ ap (report_answer form) (one_shown_as form s what shown shown' is is') ∙ sym told'
 
   -- ---- the response
 

@@ -10,17 +10,13 @@ use Rattle.roster.specs.Folds as folds
 use Rattle.roster.specs.Folds.{Replies, import}
 use Rattle.roster.specs.State.{State}
 use Rattle.roster.specs.Steps.{step_of}
-use Rattle.list_report.specs.declared.pairings.Listed.TheVariants.{All, Open}
-use Rattle.store.specs.Shown.{Absence, IsShown}
-use Rattle.store.specs.declared.show.Show.{Show}
-use Rattle.store.specs.declared.show.Show.TheVariants as show
-use Rattle.http_message.specs.Plan.{Subject, crew, limits, pairing, exceedances}
-use Rattle.http_message.specs.Plan.{members, pairings, open_pairings}
+use Rattle.part.specs.Shown.{Absence}
 use Rattle.http_message.specs.declared.plan.Submission.TheVariants.{Command, Check, Import}
 use Rattle.http_exchange.specs.Handler as http
 use Rattle.http_exchange.specs.Handler.{StatusText, submit}
 use Rattle.http_exchange.specs.declared.handler.HandlerFault.{HandlerFault}
 use Rattle.http_exchange.specs.declared.handler.HandlerFault.TheVariants as fault
+use Rattle.asking.specs.Reports.{IsShownAs}
 use Rattle.asking.specs.Requests.{asked_as}
 use Rattle.web.specs.Answers.{command_answer, fault_answer, parts_answer, report_answer}
 
@@ -41,17 +37,7 @@ Asks (submit Check body) commands = commands ≡ []
 Asks (submit (Import number) body) commands =
     ((plans : List Plan) × IsSchedule body plans × (commands ≡ import number plans))
     ⊎ ((line : ℕ) × IsAtFault body line × (commands ≡ []))
-Asks (http.show what) commands = commands ≡ []
-
--- what a book shows for a report
-abbrev pub show_of_path : Subject → Show
-show_of_path (crew id) = show.Crew id
-show_of_path (limits id named) = show.Limits id named
-show_of_path (pairing id) = show.Pairing id
-show_of_path exceedances = show.Exceedances
-show_of_path members = show.Members
-show_of_path pairings = show.Pairings All
-show_of_path open_pairings = show.Pairings Open
+Asks (http.show what form) commands = commands ≡ []
 
 module _ (s : State) where
   -- the answer to a body: the book's answer to its command, or, if it isn't read, why it isn't
@@ -69,9 +55,9 @@ module _ (s : State) where
       ((plans : List Plan) × IsSchedule body plans
       × (answer ≡ parts_answer (Replies s (import number plans))))
       ⊎ ((line : ℕ) × IsAtFault body line × (answer ≡ fault_answer (BadCsv line)))
-  IsAnswer (http.show what) answer =
-      (shown : Result (List ℕ) Absence) × IsShown s (show_of_path what) shown
-      × (answer ≡ report_answer shown)
+  IsAnswer (http.show what form) answer =
+      (shown : Result (List ℕ) Absence) × IsShownAs form s what shown
+      × (answer ≡ report_answer form shown)
 
 -- ---- a book that has failed
 
@@ -91,14 +77,14 @@ IsToldUnread (submit Command body) answer = IsNoCommand body answer
 IsToldUnread (submit Check body) answer = IsNoCommand body answer
 IsToldUnread (submit (Import number) body) answer =
     (line : ℕ) × IsAtFault body line × (answer ≡ fault_answer (BadCsv line))
-IsToldUnread (http.show what) answer = ⊥
+IsToldUnread (http.show what form) answer = ⊥
 
 -- the request is a command or a schedule that is read, or a report
 abbrev pub IsRead : http.HandlerRequest → Type 0
 IsRead (submit Command body) = IsCommandBody body
 IsRead (submit Check body) = IsCommandBody body
 IsRead (submit (Import number) body) = (plans : List Plan) × IsSchedule body plans
-IsRead (http.show what) = ⊤
+IsRead (http.show what form) = ⊤
 
 -- what a book that has failed answers: why a body isn't read; to a request that is read, that its
 -- store failed; or that there was no memory

@@ -8,18 +8,14 @@ ghost use Rattle.writing.specs.Beside.{KeepOthers};
 ghost use Rattle.state_rows.specs.Outcomes.{CrashAddsOnly, CrashLeaves};
 ghost use Rattle.book.specs.Calls.{IsAfterCalls};
 ghost use Rattle.book.specs.Kept.{IsDurablyAt, IsClean};
-ghost use Rattle.http_message.specs.Plan.{subject};
-ghost use Rattle.asking.specs.Reports as reports;
-ghost use Rattle.web.specs.Acts.{show_of_path};
 ghost use Rattle.web.specs.Serving as spec;
 
 use crate::answers::{respond, show};
 use crate::imports::answer_schedule;
-use asking::{Subject, ask_report, ask_request, check_request};
+use asking::{ask_report, ask_request, check_request};
 use book::Book;
 use http_exchange::{ChannelFault, Handler, HandlerFault, Request, Response, Served};
-use http_message::{Report, Submission};
-use list_report::Listed;
+use http_message::Submission;
 use sqlite::Alter;
 use std::alloc::Global;
 use std::io::{Read, Write};
@@ -44,26 +40,10 @@ impl<S: Alter> Handler<Book<S>> for BookHandler {
             Request::Submit(Submission::Import(number), body) => {
                 answer_schedule(alloc, book, *number, body)
             }
-            Request::Show(report) => show(alloc, ask_report(alloc, book, subject_of(report))),
+            Request::Show(subject, form) => {
+                show(alloc, *form, ask_report(alloc, book, *subject, *form))
+            }
         }
-    }
-}
-
-/// Names what a report is asked of.
-fn subject_of<'a>(report: &Report<'a>) -> Subject<'a>
-    ensures { reports.show_of result ≡ show_of_path (subject report.now) }
-{
-    match report {
-        Report::Crew(id) => Subject::Crew(id),
-        Report::Limits { crew, with } => Subject::Limits {
-            crew: *crew,
-            with: *with,
-        },
-        Report::Pairing(id) => Subject::Pairing(id),
-        Report::Exceedances => Subject::Exceedances,
-        Report::Members => Subject::Members,
-        Report::Pairings => Subject::Pairings(Listed::All),
-        Report::OpenPairings => Subject::Pairings(Listed::Open),
     }
 }
 

@@ -10,7 +10,7 @@ use asking::{NotAllAsked, ask_schedule};
 use book::Book;
 use http::StatusCode;
 use http_exchange::{HandlerFault, Response};
-use request_number::RequestNumber;
+use request::RequestNumber;
 use sqlite::Alter;
 use std::alloc::Global;
 

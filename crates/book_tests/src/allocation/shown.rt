@@ -4,27 +4,24 @@ use crate::fault::Fault;
 use book::{Book, Show};
 use duty::{CrewId, PairingId};
 use limits_report::limits_text;
-use list_report::{Listed, members_text, pairings_text};
-use report::{ReportFault, exceedance_text, pairing_text, roster_text};
+use report::{
+    ReportFault, exceedance_text, members_text, pairing_text, pairings_text, roster_text,
+};
+use request::{Listed, Subject};
 use sqlite::Alter;
 use std::alloc::Global;
 use values::{MemoryFault, Text};
 
 /// What is shown.
-#[derive(Clone, Copy)]
-enum Report {
-    Member(&'static str),
-    Limits(&'static str, &'static str),
-    Pairing(&'static str),
-    Exceedances,
-    Members,
-    Pairings(Listed),
-}
+type Report = Subject<&'static str, &'static str>;
 
 const REPORTS: [Report; 9] = [
-    Report::Member("C1"),
-    Report::Member("F1"),
-    Report::Limits("C1", "P20"),
+    Report::Crew("C1"),
+    Report::Crew("F1"),
+    Report::Limits {
+        crew: "C1",
+        with: Some("P20"),
+    },
     Report::Pairing("P10"),
     Report::Pairing("P20"),
     Report::Exceedances,
@@ -33,17 +30,23 @@ const REPORTS: [Report; 9] = [
     Report::Pairings(Listed::Open),
 ];
 
+/// A copy of an id.
+fn text(alloc: Global, id: &str) -> Result<Text, Fault> {
+    Ok(Text::new(String::from_str(alloc, id)?))
+}
+
 /// What the book is asked to show.
 fn show_of(alloc: Global, report: Report) -> Result<Show, Fault> {
     Ok(match report {
-        Report::Member(id) => Show::Crew(CrewId::new(Text::new(String::from_str(alloc, id)?))),
-        Report::Limits(id, with) => Show::Limits {
-            crew: CrewId::new(Text::new(String::from_str(alloc, id)?)),
-            with: Some(PairingId::new(Text::new(String::from_str(alloc, with)?))),
+        Report::Crew(id) => Show::Crew(CrewId::new(text(alloc, id)?)),
+        Report::Limits { crew, with } => Show::Limits {
+            crew: CrewId::new(text(alloc, crew)?),
+            with: match with {
+                Some(id) => Some(PairingId::new(text(alloc, id)?)),
+                None => None,
+            },
         },
-        Report::Pairing(id) => {
-            Show::Pairing(PairingId::new(Text::new(String::from_str(alloc, id)?)))
-        }
+        Report::Pairing(id) => Show::Pairing(PairingId::new(text(alloc, id)?)),
         Report::Exceedances => Show::Exceedances,
         Report::Members => Show::Members,
         Report::Pairings(which) => Show::Pairings(which),

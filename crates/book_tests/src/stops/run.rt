@@ -7,6 +7,7 @@ use crate::requests::{CAPTAIN, requests};
 use crate::stops::states::{ANSWERS, COMMANDS, FIRST, IMPORT, command_at, is_part, pairings};
 use book::{Answer, Book, Import, LoadFault, Run, Show};
 use duty::{CrewId, PairingId};
+use request::RequestNumber;
 use sqlite::{Alter, Connection, Files, Options};
 use sqlite_disk::Disk;
 use std::alloc::Global;
@@ -74,7 +75,8 @@ pub fn import<S: Alter>(alloc: Global) -> Result<Import, Fault> {
     if pairings.len() > 10_000 {
         return Err(Fault::Unmade);
     }
-    Ok(Book::<S>::import(IMPORT, pairings))
+    let number = RequestNumber::new(IMPORT).ok_or(Fault::Unmade)?;
+    Ok(Book::<S>::import(number, pairings))
 }
 
 /// Asks a book the next part of an import, which is the command at this place.

@@ -3,6 +3,7 @@
 use crate::allocation::reports::MemoryReports;
 use crate::allocation::{entries, growing, machine, texts};
 use crate::fault::Fault;
+use request::Form;
 use std::alloc::Global;
 
 /// Calls that are tried together.
@@ -22,6 +23,8 @@ pub enum Part {
     Canonical,
     /// Reports are made.
     Report,
+    /// Reports are made in JSON.
+    ReportJson,
     /// Schedules are read.
     Schedule,
 }
@@ -36,7 +39,8 @@ impl Part {
             Part::Step => machine::step(alloc, reports),
             Part::Put => entries::put(alloc, reports),
             Part::Canonical => texts::canonical(alloc, reports),
-            Part::Report => texts::report_all(alloc, reports),
+            Part::Report => texts::report_all(alloc, reports, Form::Text),
+            Part::ReportJson => texts::count_json(alloc, reports),
             Part::Schedule => texts::schedule(alloc, reports),
         }
     }

@@ -8,8 +8,13 @@ use codec::schedule_of_csv;
 use command::Command;
 use duty::{CrewId, Pairing, PairingId};
 use limits_report::limits_text;
-use list_report::{Listed, members_text, pairings_text};
-use report::{ReportFault, exceedance_text, pairing_text, roster_text};
+use report::{
+    ReportFault, exceedance_text, members_text, pairing_text, pairings_text, roster_text,
+};
+use report_json::{
+    exceedances_json, limits_json, members_json, pairing_json, pairings_json, roster_json,
+};
+use request::{Form, Listed, Subject};
 use roster::Roster;
 use std::alloc::Global;
 use stored_json::CodecFault;
@@ -47,23 +52,12 @@ pub fn canonical(alloc: Global, reports: &mut MemoryReports) -> Result<String, F
 
 // ---- Reports.
 
-/// One of the reports.
-#[derive(Clone, Copy)]
-enum Report<'a> {
-    Member(&'a CrewId),
-    Limits(&'a CrewId),
-    Pairing(&'a PairingId),
-    Exceedances,
-    Members,
-    Pairings(Listed),
-}
-
 /// The reports that name nobody.
-const LISTS: [Report<'static>; 4] = [
-    Report::Exceedances,
-    Report::Members,
-    Report::Pairings(Listed::All),
-    Report::Pairings(Listed::Open),
+const LISTS: [Subject<&'static CrewId, &'static PairingId>; 4] = [
+    Subject::Exceedances,
+    Subject::Members,
+    Subject::Pairings(Listed::All),
+    Subject::Pairings(Listed::Open),
 ];
 
 /// Makes a report of a list.
@@ -74,14 +68,45 @@ fn as_report(text: Result<String, MemoryFault>) -> Result<String, ReportFault> {
     }
 }
 
-fn report_once(alloc: Global, roster: &Roster, report: Report<'_>) -> Result<String, ReportFault> {
-    match report {
-        Report::Member(who) => roster_text(alloc, roster, who),
-        Report::Limits(who) => limits_text(alloc, roster, who, None),
-        Report::Pairing(id) => pairing_text(alloc, roster, id),
-        Report::Exceedances => exceedance_text(alloc, roster),
-        Report::Members => as_report(members_text(alloc, roster)),
-        Report::Pairings(which) => as_report(pairings_text(alloc, roster, which)),
+fn text_once(
+    alloc: Global,
+    roster: &Roster,
+    subject: Subject<&CrewId, &PairingId>,
+) -> Result<String, ReportFault> {
+    match subject {
+        Subject::Crew(who) => roster_text(alloc, roster, who),
+        Subject::Limits { crew, with } => limits_text(alloc, roster, crew, with),
+        Subject::Pairing(id) => pairing_text(alloc, roster, id),
+        Subject::Exceedances => exceedance_text(alloc, roster),
+        Subject::Members => as_report(members_text(alloc, roster)),
+        Subject::Pairings(which) => as_report(pairings_text(alloc, roster, which)),
+    }
+}
+
+fn json_once(
+    alloc: Global,
+    roster: &Roster,
+    subject: Subject<&CrewId, &PairingId>,
+) -> Result<String, ReportFault> {
+    match subject {
+        Subject::Crew(who) => roster_json(alloc, roster, who),
+        Subject::Limits { crew, with } => limits_json(alloc, roster, crew, with),
+        Subject::Pairing(id) => pairing_json(alloc, roster, id),
+        Subject::Exceedances => as_report(exceedances_json(alloc, roster)),
+        Subject::Members => as_report(members_json(alloc, roster)),
+        Subject::Pairings(which) => as_report(pairings_json(alloc, roster, which)),
+    }
+}
+
+fn report_once(
+    alloc: Global,
+    roster: &Roster,
+    subject: Subject<&CrewId, &PairingId>,
+    form: Form,
+) -> Result<String, ReportFault> {
+    match form {
+        Form::Text => text_once(alloc, roster, subject),
+        Form::Json => json_once(alloc, roster, subject),
     }
 }
 
@@ -90,13 +115,14 @@ fn add_report(
     alloc: Global,
     reports: &mut MemoryReports,
     roster: &Roster,
-    report: Report<'_>,
+    subject: Subject<&CrewId, &PairingId>,
+    form: Form,
     text: &mut String,
 ) -> Result<(), Fault> {
-    let made = match report_once(alloc, roster, report) {
+    let made = match report_once(alloc, roster, subject, form) {
         Err(ReportFault::Memory) => {
             reports.memory = true;
-            report_once(alloc, roster, report)?
+            report_once(alloc, roster, subject, form)?
         }
         made => made?,
     };
@@ -109,27 +135,45 @@ fn all_reports(
     alloc: Global,
     reports: &mut MemoryReports,
     roster: &Roster,
+    form: Form,
 ) -> Result<String, Fault> {
     let mut text = String::new(alloc);
     for (who, _member) in roster.crew.iter() {
-        add_report(alloc, reports, roster, Report::Member(who), &mut text)?;
-        add_report(alloc, reports, roster, Report::Limits(who), &mut text)?;
+        add_report(alloc, reports, roster, Subject::Crew(who), form, &mut text)?;
+        let limits = Subject::Limits {
+            crew: who,
+            with: None,
+        };
+        add_report(alloc, reports, roster, limits, form, &mut text)?;
     }
     for (id, _rostered) in roster.pairings.iter() {
-        add_report(alloc, reports, roster, Report::Pairing(id), &mut text)?;
+        add_report(
+            alloc,
+            reports,
+            roster,
+            Subject::Pairing(id),
+            form,
+            &mut text,
+        )?;
     }
-    for &report in &LISTS {
-        add_report(alloc, reports, roster, report, &mut text)?;
+    for &subject in &LISTS {
+        add_report(alloc, reports, roster, subject, form, &mut text)?;
     }
     Ok(text)
 }
 
-/// Makes all reports of a roster.
-pub fn report_all(alloc: Global, reports: &mut MemoryReports) -> Result<String, Fault> {
+/// Makes all reports of a roster in a form.
+pub fn report_all(alloc: Global, reports: &mut MemoryReports, form: Form) -> Result<String, Fault> {
     let roster = last_state(alloc)?;
-    let text = all_reports(alloc, reports, &roster);
+    let text = all_reports(alloc, reports, &roster, form);
     drop(roster);
     text
+}
+
+/// Makes all reports of a roster in JSON, and counts their lines and bytes.
+pub fn count_json(alloc: Global, reports: &mut MemoryReports) -> Result<String, Fault> {
+    let text = report_all(alloc, reports, Form::Json)?;
+    Ok(format!(in alloc; "{} reports, {} bytes", text.lines().count(), text.len())?)
 }
 
 // ---- Schedules.

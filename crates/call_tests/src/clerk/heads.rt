@@ -9,36 +9,36 @@ use std::test::Fail;
 const INPUTS: &str = "\
 || => 400 - 
  => 0 0 
-||GET /exceedances HTTP/1.1|Host: x||more => 200 4 exceedances
-GET /exceedances HTTP/1.1|hOsT:x|| => 200 0 exceedances
+||GET /exceedances HTTP/1.1|Host: x||more => 200 4 Text of Exceedances
+GET /exceedances HTTP/1.1|hOsT:x|| => 200 0 Text of Exceedances
 GET /exceedances HTTP/1.1|Host: x|A: b| c|| => 400 - 
 GET /exceedances HTTP/1.1|Host : x|| => 400 - 
 GET /exceedances HTTP/1.1|Host: x| => 400 - 
 GET /exceedances HTTP/1.1|| => 400 - 
 GET /exceedances HTTP/1.1|Host: x|Host: x|| => 400 - 
-GET /exceedances HTTP/1.0|| => 200 0 exceedances
-GET /exceedances HTTP/1.0|Host: x|Host: y|| => 200 0 exceedances
+GET /exceedances HTTP/1.0|| => 200 0 Text of Exceedances
+GET /exceedances HTTP/1.0|Host: x|Host: y|| => 200 0 Text of Exceedances
 GET /exceedances HTTP/1.2|Host: x|| => 400 - 
 GET /exceedances|Host: x|| => 400 - 
 POST /requests HTTP/1.1|Transfer-Encoding: chunked|| => 400 - 
 DELETE /nothing HTTP/1.1|Host: x|transfer-encoding: gzip|| => 501 0 
-GET http://a.b:80/crew/C9?x=/y HTTP/1.1|Host: x|| => 404 0 crew C9
-GET HTTP://a.b/exceedances HTTP/1.1|Host: x|| => 200 0 exceedances
+GET http://a.b:80/crew/C9?x=/y HTTP/1.1|Host: x|| => 404 0 Text of Crew(\"C9\")
+GET HTTP://a.b/exceedances HTTP/1.1|Host: x|| => 200 0 Text of Exceedances
 GET http://a.b HTTP/1.1|Host: x|| => 404 0 
 GET http://a.b?/exceedances HTTP/1.1|Host: x|| => 404 0 
 GET https://a.b/exceedances HTTP/1.1|Host: x|| => 404 0 
-GET /exceedances?of=C9 HTTP/1.1|Host: x|| => 200 0 exceedances
-GET /crew/%439 HTTP/1.1|Host: x|| => 200 0 crew %439
+GET /exceedances?of=C9 HTTP/1.1|Host: x|| => 200 0 Text of Exceedances
+GET /crew/%439 HTTP/1.1|Host: x|| => 200 0 Text of Crew(\"%439\")
 GET /crew/C9/ HTTP/1.1|Host: x|| => 404 0 
 GET /crew/ HTTP/1.1|Host: x|| => 404 0 
 GET /crew HTTP/1.1|Host: x|| => 404 0 
 GET //crew/C9 HTTP/1.1|Host: x|| => 404 0 
 GET /crew/C9/x HTTP/1.1|Host: x|| => 404 0 
 GET /exceedances/ HTTP/1.1|Host: x|| => 404 0 
-GET /pairings/P1 HTTP/1.1|Host: x|Content-Length: 3||abc => 200 3 pairing P1
-GET /reports/limits/C1 HTTP/1.1|Host: x|| => 200 0 limits C1
-HEAD /reports/limits/C1/P1 HTTP/1.1|Host: x|| => 200 0 limits C1 with P1
-GET /reports/limits/%20/é?with=P2 HTTP/1.1|Host: x|| => 200 0 limits %20 with é
+GET /pairings/P1 HTTP/1.1|Host: x|Content-Length: 3||abc => 200 3 Text of Pairing(\"P1\")
+GET /reports/limits/C1 HTTP/1.1|Host: x|| => 200 0 Text of Limits { crew: \"C1\", with: None }
+HEAD /reports/limits/C1/P1 HTTP/1.1|Host: x|| => 200 0 Text of Limits { crew: \"C1\", with: Some(\"P1\") }
+GET /reports/limits/%20/é?with=P2 HTTP/1.1|Host: x|| => 200 0 Text of Limits { crew: \"%20\", with: Some(\"é\") }
 GET /reports/limits HTTP/1.1|Host: x|| => 404 0 
 GET /reports/limits/ HTTP/1.1|Host: x|| => 404 0 
 GET /reports/limits//P1 HTTP/1.1|Host: x|| => 404 0 
@@ -46,6 +46,23 @@ GET /reports/limits/C1/ HTTP/1.1|Host: x|| => 404 0
 GET /reports/limits/C1/P1/ HTTP/1.1|Host: x|| => 404 0 
 GET /reports/limits/C1/P1/2 HTTP/1.1|Host: x|| => 404 0 
 POST /reports/limits/C1/P1 HTTP/1.1|Host: x|| => 405 0 
+GET /json/exceedances HTTP/1.1|Host: x||more => 200 4 Json of Exceedances
+HEAD http://a.b/json/crew/C1 HTTP/1.1|Host: x|| => 200 0 Json of Crew(\"C1\")
+GET /json/pairings/P1 HTTP/1.1|Host: x|| => 200 0 Json of Pairing(\"P1\")
+GET /json/reports/limits/C1/P1?a=b HTTP/1.1|Host: x|| => 200 0 Json of Limits { crew: \"C1\", with: Some(\"P1\") }
+GET /json/reports/members HTTP/1.1|Host: x|| => 200 0 Json of Members
+GET /json/reports/open HTTP/1.1|Host: x|| => 200 0 Json of Pairings(Open)
+GET /crew/json HTTP/1.1|Host: x|| => 200 0 Text of Crew(\"json\")
+GET /json HTTP/1.1|Host: x|| => 404 0 
+GET /json/ HTTP/1.1|Host: x|| => 404 0 
+GET /jsoncrew/C1 HTTP/1.1|Host: x|| => 404 0 
+GET /JSON/exceedances HTTP/1.1|Host: x|| => 404 0 
+GET /json/json/exceedances HTTP/1.1|Host: x|| => 404 0 
+GET //json/exceedances HTTP/1.1|Host: x|| => 404 0 
+POST /json/exceedances HTTP/1.1|Host: x|Content-Length: 2||ab => 405 2 
+POST /json/requests HTTP/1.1|Host: x|Content-Length: 2||ab => 404 2 
+GET /json/checks HTTP/1.1|Host: x|| => 404 0 
+POST /json/imports/1 HTTP/1.1|Host: x|Content-Length: 2||ab => 404 2 
 get /exceedances HTTP/1.1|Host: x|| => 405 0 
 POST /crew/C9 HTTP/1.1|Host: x|| => 405 0 
 GET /imports/1 HTTP/1.1|Host: x|| => 405 0 
@@ -106,7 +123,10 @@ fn each_head_and_length_comes_to_what_is_stated(rt: HostRuntime) -> Result<(), F
 fn bytes_that_are_no_text_come_to_what_is_stated(rt: HostRuntime) -> Result<(), Fail> {
     let alloc = rt.alloc();
     let feeds = b"GET /exceedances HTTP/1.1\nHost: x\n\nmore".as_slice();
-    assert_eq!(rt; outcome_of(alloc, feeds)?.as_str(), "200 4 exceedances");
+    assert_eq!(rt;
+        outcome_of(alloc, feeds)?.as_str(),
+        "200 4 Text of Exceedances"
+    );
     let nul = b"GET /exceedances HTTP/1.1\r\nHost: x\0\r\n\r\n".as_slice();
     assert_eq!(rt; outcome_of(alloc, nul)?.as_str(), "400 - ");
     let no_text = b"GET /crew/\xff HTTP/1.1\r\nHost: x\r\n\r\n".as_slice();
@@ -132,10 +152,14 @@ fn a_head_has_at_most_16_384_bytes_and_64_fields(rt: HostRuntime) -> Result<(), 
     let alloc = rt.alloc();
     let around = head(alloc, 0, 0)?.len();
     for &(length, fields, want) in &[
-        (16_384usize.saturating_sub(around), 0, "200 0 exceedances"),
+        (
+            16_384usize.saturating_sub(around),
+            0,
+            "200 0 Text of Exceedances",
+        ),
         (16_385usize.saturating_sub(around), 0, "400 - "),
         (20_000, 0, "400 - "),
-        (1, 63, "200 0 exceedances"),
+        (1, 63, "200 0 Text of Exceedances"),
         (1, 64, "400 - "),
     ] {
         let input = head(alloc, length, fields)?;

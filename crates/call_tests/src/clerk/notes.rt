@@ -1,7 +1,7 @@
 //! A handler for tests.
 use http::StatusCode;
 use http_exchange::{Handler, HandlerFault, Request, Response};
-use http_message::{MediaType, Report, Submission};
+use http_message::{MediaType, Submission};
 use std::alloc::{AllocError, Global};
 use std::str::from_utf8;
 
@@ -40,16 +40,7 @@ fn note_of(alloc: Global, request: &Request<'_>) -> Result<String, AllocError> {
         Request::Submit(Submission::Import(number), body) => {
             format!(in alloc; "import {} {}", number.get(), text_of(body))
         }
-        Request::Show(Report::Crew(id)) => format!(in alloc; "crew {id}"),
-        Request::Show(Report::Pairing(id)) => format!(in alloc; "pairing {id}"),
-        Request::Show(Report::Exceedances) => String::from_str(alloc, "exceedances"),
-        Request::Show(Report::Members) => String::from_str(alloc, "members"),
-        Request::Show(Report::Pairings) => String::from_str(alloc, "pairings"),
-        Request::Show(Report::OpenPairings) => String::from_str(alloc, "open pairings"),
-        Request::Show(Report::Limits { crew, with }) => match with {
-            Some(pairing) => format!(in alloc; "limits {crew} with {pairing}"),
-            None => format!(in alloc; "limits {crew}"),
-        },
+        Request::Show(subject, form) => format!(in alloc; "{form:?} of {subject:?}"),
     }
 }
 
@@ -59,13 +50,13 @@ fn text_of(bytes: &[u8]) -> &str {
 
 fn answer_to(alloc: Global, note: &str) -> Result<Response, HandlerFault> {
     match note {
-        "exceedances" => answer_of(
+        "Text of Exceedances" => answer_of(
             alloc,
             StatusCode::OK,
             MediaType::PlainText,
             "EXCEEDANCES 0\n",
         ),
-        "crew C9" => answer_of(
+        "Text of Crew(\"C9\")" => answer_of(
             alloc,
             StatusCode::NOT_FOUND,
             MediaType::Json,

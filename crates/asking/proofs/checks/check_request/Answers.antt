@@ -6,10 +6,11 @@ use Rattle.asking.proofs.checks.check_request.Goals as goal
 
 pub returns-in-Ok : goal.returns-in-Ok
 returns-in-Ok g c =
+    let read = c.in-Ok.number-1-given.0.0 in
     let checked = c.check-answer.ensures in
     let call : HasRead g.S.Store c.args.book.now c.check-answer.new.self c.check-answer.result = record { failed = checked.failed; shut = checked.shut; unchanged = checked.unchanged; kept = checked.kept } in
     record {
-      checked = check_read g.S.Store c.args.book.now c.check-answer.new.self c.args.body.now c.in-Ok.number c.in-Ok.command c.new.result c.report_answer.result
+      checked = check_read g.S.Store c.args.book.now c.check-answer.new.self c.args.body.now read.0 read.1 c.new.result c.report_answer.result
           c.in-Ok.ensures.command c.new.ensures
           (record { answer = c.check-answer.result; checked = record { call = call; reply = checked.reply; tables = checked.shown }; reported = c.report_answer.ensures });
       calls = one_call g.S.Store (call_for_reading c.check-answer.result) (is_reading_call g.S.Store c.check-answer.result call);

@@ -11,7 +11,7 @@ use Rattle.asking.proofs.schedules.ask_parts.Goals as goal
 pub loop-answer-init : goal.loop-answer-init
 loop-answer-init g c = record {
   place = (omega arith, omega arith);
-  next = rw c.get.ensures.number at c.import-import.ensures.begun;
+  next = c.import-import.ensures.begun;
   so_far = none_yet g.S.Store g.L.Listener.hears c.args.book.now c.args.listener.now (import c.args.number c.args.pairings.items);
   calls = no_calls g.S.Store refl;
 }

@@ -1,8 +1,8 @@
-use Rattle.std.proofs.Common.{subst, ℕ, List, Result, IfOk}
+use Rattle.std.proofs.Common.{◌≡◌, subst, ℕ, List, Result, IfOk}
 use Rattle.std.specs.Prelude.{◌↔◌}
 use Rattle.sqlite.specs.Held.{state}
 use Rattle.roster.specs.State.{State}
-use Rattle.store.specs.Shown.{Absence, IsShown}
+use Rattle.part.specs.Shown.{Absence, IsShown, shown_part}
 use Rattle.lookup.proofs.Changes.{nothing_changes}
 use Rattle.book.proofs.Asked.{read_fault, shown_on, shows_it}
 use Rattle.book.proofs.States.{same_state, still_keeps}
@@ -27,6 +27,14 @@ returns-clause-text g c = rw (← c.self.view_is) (λ s at clean.
     let same = same_state (state g.S.Store c.self.inside.store) one.it s one.keeps at before in
     subst (λ (x : State). IfOk c.read_shown-shown.result (λ roster. (shown : Result (List ℕ) Absence) → IsShown roster c.args.what.now shown ↔ IsShown x c.args.what.now shown)) same
     (c.read_shown-shown.ensures.text one.it (shows_it (state g.S.Store c.self.inside.store) one.it one.keeps one.shown before) clean))
+
+pub returns-clause-part : goal.returns-clause-part
+returns-clause-part g c = rw (← c.self.view_is) (λ s at clean.
+    let one = c.self.invariant.1 c.if-self.false in
+    let before = c.read_shown-shown.ensures.unchanged.nothing_new.disk clean in
+    let same = same_state (state g.S.Store c.self.inside.store) one.it s one.keeps at before in
+    subst (λ (x : State). IfOk c.read_shown-shown.result (λ roster. roster ≡ shown_part x c.args.what.now)) same
+    (c.read_shown-shown.ensures.part one.it (shows_it (state g.S.Store c.self.inside.store) one.it one.keeps one.shown before) clean))
 
 pub returns-clause-kept : goal.returns-clause-kept
 returns-clause-kept g c = rw (← c.self.view_is) (λ s at. still_keeps _ _ s c.read_shown-shown.ensures.unchanged.nothing_new c.read_shown-shown.ensures.some_left at)

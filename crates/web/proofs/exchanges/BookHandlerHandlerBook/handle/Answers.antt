@@ -1,5 +1,5 @@
 use Rattle.std.proofs.Common.{rules}
-use Rattle.http_message.specs.Plan.{subject}
+use Rattle.request.specs.Subjects.{subject_copied}
 use Rattle.http_message.specs.declared.plan.Submission.TheVariants.{Check, Command}
 use Rattle.http_exchange.specs.Handler.{answer_or_fault, submit}
 use Rattle.web.specs.Handling.{IsHandled}
@@ -25,5 +25,5 @@ returns-in-Submit-Check-default g c =
 pub returns-in-Show : goal.returns-in-Show
 returns-in-Show g c =
     let it = c.ask_report.ensures in
-    rw c.in-Show.is (report_handled g.S.Store c.args.book.now c.ask_report.new.book (subject c.in-Show.report) it.calls c.ask_report.result (answer_or_fault c.show.result)
-    (rw c.subject_of.ensures at it.asked) c.show.ensures)
+    rw c.in-Show.is (report_handled g.S.Store c.args.book.now c.ask_report.new.book (subject_copied c.in-Show.subject) c.in-Show.form it.calls c.ask_report.result (answer_or_fault c.show.result)
+    it.asked c.show.ensures)

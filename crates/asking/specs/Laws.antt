@@ -1,0 +1,19 @@
+-- What holds of what is shown of a state in each form.
+use Rattle.std.specs.Prelude.{◌≡◌, ℕ, List, Result}
+use Rattle.request.specs.declared.form.Form.{Form}
+use Rattle.request.specs.declared.subject.Subject.{Subject}
+use Rattle.roster.specs.Sound.{Sound}
+use Rattle.roster.specs.State.{State}
+use Rattle.part.specs.Shown.{Absence}
+use Rattle.asking.specs.Reports.{IsShownAs}
+
+-- of a sound state something is shown in each form, whatever is asked: a text, or why there is none
+abbrev pub EachIsShownAs : Type 0
+EachIsShownAs = (form : Form) (s : State) (what : Subject (List ℕ) (List ℕ)) → Sound s →
+    (shown : Result (List ℕ) Absence) × IsShownAs form s what shown
+
+-- what is shown of a state for one subject in one form is one: one text, or one reason why there is
+-- none
+abbrev pub HasOneShownAs : Type 0
+HasOneShownAs = (form : Form) (s : State) (what : Subject (List ℕ) (List ℕ))
+    (a b : Result (List ℕ) Absence) → IsShownAs form s what a → IsShownAs form s what b → a ≡ b

@@ -1,0 +1,12 @@
+//! What holds of the reports of every state, in each form. Each of these functions does nothing; its clause is a law.
+ghost use Rattle.asking.specs.Laws.{EachIsShownAs, HasOneShownAs};
+
+/// Of a sound state something is shown in each form, whatever is asked: a text, or that the member or the pairing isn't there.
+pub fn each_is_shown_as()
+    ensures { EachIsShownAs }
+{}
+
+/// For each subject one thing at most is shown in a form.
+pub fn one_shown_as()
+    ensures { HasOneShownAs }
+{}

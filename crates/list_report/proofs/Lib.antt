@@ -1,4 +1,0 @@
-pub mod InOrder
-pub mod EachOrder
-pub mod EachText
-pub mod OneText

@@ -1,5 +1,0 @@
-use Rattle.list_report.proofs.EachText.{each_has_period}
-use Rattle.list_report.proofs.laws.each_has_period.Goals as goal
-
-pub returns : goal.returns
-returns c = each_has_period

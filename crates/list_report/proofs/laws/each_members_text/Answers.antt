@@ -1,5 +1,0 @@
-use Rattle.list_report.proofs.EachText.{each_members_text}
-use Rattle.list_report.proofs.laws.each_members_text.Goals as goal
-
-pub returns : goal.returns
-returns c = each_members_text

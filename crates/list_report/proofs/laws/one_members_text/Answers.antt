@@ -1,5 +1,0 @@
-use Rattle.list_report.proofs.OneText.{one_members_text}
-use Rattle.list_report.proofs.laws.one_members_text.Goals as goal
-
-pub returns : goal.returns
-returns c = one_members_text

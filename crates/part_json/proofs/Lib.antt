@@ -1,0 +1,3 @@
+pub mod Alike
+pub mod Each
+pub mod One

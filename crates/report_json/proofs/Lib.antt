@@ -1,0 +1,4 @@
+pub mod EachJson
+pub mod OneJson
+pub mod Plain
+pub mod Rows

@@ -1,0 +1,12 @@
+use Rattle.std.proofs.Common.{◌≡◌, ◌++◌, map}
+use Rattle.std.specs.List.{filter}
+use Rattle.std.specs.Str.{bytes_eq}
+use Rattle.serde_json.specs.View.{view}
+use Rattle.values.specs.Name.{named_rows}
+use Rattle.report_json.specs.RosterJson.{ground_duty_json, ground_duties_json}
+use Rattle.report_json.proofs.duties.add_grounds.Given as goal
+
+abbrev pub invariant-loop-id : goal.invariant-loop-id
+invariant-loop-id l =
+    map view l.duties.items ++ map ground_duty_json (filter (λ row. bytes_eq row.1.crew l.who) (named_rows (λ id. id) l.id-iterator))
+    ≡ map view l.initial.duties.items ++ ground_duties_json l.roster l.who

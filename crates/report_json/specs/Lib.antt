@@ -1,0 +1,9 @@
+pub mod Objects
+pub mod PeriodJson
+pub mod RosterJson
+pub mod PairingJson
+pub mod PairingsJson
+pub mod MembersJson
+pub mod ExceedancesJson
+pub mod LimitsJson
+pub mod Laws
