@@ -31,7 +31,7 @@ from dataclasses import dataclass, field
 from pathlib import Path
 
 import tables
-from exchanges import ACCEPTED, MEMORY, STORE, body_of, check, get, refused, request_of, response
+from exchanges import ACCEPTED, DESK, MEMORY, STORE, UNKEPT, body_of, check, get, refused, request_of, response
 from office import ZONE, Book, Ran, build, compact, rosterbook, schedule
 from refusing import Memory, folder, has_compiler
 from reports import carry_out
@@ -394,7 +394,8 @@ CASES = {
     "serve_roster": Exchange(get("/crew/C1"), response(200, ROSTER)),
     "serve_limits": Exchange(get("/reports/limits/C1/P2"), response(200, WITH_P2)),
     "serve_open": Exchange(get("/reports/open"), response(200, OPEN)),
-    "serve_json": Exchange(get("/json/crew/C1"), response(200, ROSTER_JSON)),
+    "serve_json": Exchange(get("/json/crew/C1"), response(200, ROSTER_JSON, UNKEPT)),
+    "serve_desk": Exchange(get("/"), response(*DESK)),
 }
 
 # ---- How it is tried.

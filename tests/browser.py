@@ -4,6 +4,7 @@
     with browser("evil.test", "roster") as visitor:         these names mean 127.0.0.1 for it
         visitor.get("http://evil.test:8000/")
         asked(visitor, "fetch('/x').then(it => it.text())") what a promise comes to in the page, or its fault
+    console(visitor)                                        what came on the console
 """
 
 import importlib.util
@@ -36,6 +37,7 @@ def browser(*names):
     rules = ", ".join(f"MAP {name} 127.0.0.1" for name in names)
     for word in ("--headless=new", "--no-sandbox", "--disable-dev-shm-usage", f"--host-resolver-rules={rules}"):
         options.add_argument(word)
+    options.set_capability("goog:loggingPrefs", {"browser": "ALL"})
     visitor = webdriver.Chrome(options=options, service=Service(shutil.which("chromedriver")))
     try:
         visitor.set_page_load_timeout(PATIENCE)
@@ -43,6 +45,11 @@ def browser(*names):
         yield visitor
     finally:
         visitor.quit()
+
+
+def console(visitor):
+    """What came on the console of its pages since this was asked last."""
+    return [it["message"] for it in visitor.get_log("browser")]
 
 
 def asked(visitor, promise):

@@ -4,6 +4,8 @@ In the texts of requests and responses `|` stands for the end of a line, as `GET
 short is the status of an error, which says that status alone, or a status and a text.
 """
 
+import re
+
 from office import TOP, compact, order, schedule
 
 PHRASES = {
@@ -51,13 +53,17 @@ def request_of(asked):
     return get(rest) if word == "GET" else post("/requests", body_of(int(word), rest))
 
 
-def response(status, text, allow=None, method="GET"):
-    """A response with a text, which is JSON where it begins with a brace."""
+TYPES = {"{": "application/json", "<": "text/html; charset=utf-8"}  # of a text that begins so
+
+
+def response(status, text, advice=(), allow=None, method="GET"):
+    """A response with a text, whose type is that of a report unless its first byte is in TYPES; `advice` are its fields for a browser."""
     lines = [
         f"HTTP/1.1 {status} {PHRASES[status]}",
-        f"Content-Type: {'application/json' if text.startswith('{') else 'text/plain; charset=utf-8'}",
+        f"Content-Type: {TYPES.get(text[:1], 'text/plain; charset=utf-8')}",
         f"Content-Length: {len(text.encode())}",
         *([f"Allow: {allow}"] if allow else []),
+        *advice,
         "Connection: close",
     ]
     return wire("|".join(lines) + "||") + (b"" if method == "HEAD" else text.encode())
@@ -65,7 +71,7 @@ def response(status, text, allow=None, method="GET"):
 
 def error(status, allow=None, method="GET"):
     """The response to a request that is refused before the book is asked."""
-    return response(status, compact({"result": "error", "status": status}), allow, method)
+    return response(status, compact({"result": "error", "status": status}), (), allow, method)
 
 
 def answer_of(short):
@@ -88,9 +94,26 @@ def parts(*replies):
 
 def report(value):
     """A report in JSON, in short."""
-    return 200, compact(value) + "\n"
+    return 200, compact(value) + "\n", UNKEPT
 
 
+def constant(path):
+    """The text of the first constant in a source."""
+    return re.search(r'&str =\s+(r#+|)"(.*)"(#*);', (TOP / path).read_text(), re.S)[2]
+
+
+# What a browser is told: of a report in JSON, and of the page of the desk.
+OWN = ("X-Content-Type-Options: nosniff", "Cross-Origin-Resource-Policy: same-origin")
+UNKEPT = ("Cache-Control: no-store", *OWN)
+PAGE_ADVICE = (
+    f"Content-Security-Policy: {constant('crates/desk/src/policy.rt')}",
+    "Cache-Control: no-cache",
+    "X-Frame-Options: DENY",
+    "Referrer-Policy: no-referrer",
+    "Cross-Origin-Opener-Policy: same-origin",
+    *OWN,
+)
+DESK = (200, constant("crates/desk/src/page.rt"), PAGE_ADVICE)
 ACCEPTED = '{"exceedances":[],"result":"accepted"}'
 STORE = '{"name":"Store","refusal":90,"result":"refused"}'
 MEMORY = '{"name":"Memory","refusal":91,"result":"refused"}'
@@ -101,6 +124,8 @@ ONE_PAIRING = schedule(["plan P1 10: 11:00 | 12:00-19:30 | 20:00"])
 NO_BODY = (422, refused(31, "BadJson", field="body"))
 NO_CREW = (404, refused(2, "NoSuchCrew"))
 NO_PAIRING = (404, refused(4, "NoSuchPairing"))
+NO_CREW_JSON = (*NO_CREW, UNKEPT)  # where the roster was asked for in JSON
+NO_PAIRING_JSON = (*NO_PAIRING, UNKEPT)
 NO_GROUND = (409, refused(15, "NoSuchGround"))
 NONE_EXCEEDED = (200, "EXCEEDANCES 0\n")
 NONE_EXCEEDED_JSON = report({"exceedances": []})
@@ -127,11 +152,13 @@ HTTP/1.1 405 Method Not Allowed|Content-Type: application/json|Content-Length: 3
 GET /crew/C9 HTTP/1.1|Host: x||
 HTTP/1.1 404 Not Found|Content-Type: application/json|Content-Length: 52|Connection: close||{"name":"NoSuchCrew","refusal":2,"result":"refused"}
 GET /json/exceedances HTTP/1.1|Host: x||
-HTTP/1.1 200 OK|Content-Type: application/json|Content-Length: 19|Connection: close||{"exceedances":[]}_
+HTTP/1.1 200 OK|Content-Type: application/json|Content-Length: 19|Cache-Control: no-store|X-Content-Type-Options: nosniff|Cross-Origin-Resource-Policy: same-origin|Connection: close||{"exceedances":[]}_
 HEAD /json/exceedances HTTP/1.1|Host: x||
-HTTP/1.1 200 OK|Content-Type: application/json|Content-Length: 19|Connection: close||
+HTTP/1.1 200 OK|Content-Type: application/json|Content-Length: 19|Cache-Control: no-store|X-Content-Type-Options: nosniff|Cross-Origin-Resource-Policy: same-origin|Connection: close||
 GET /json/crew/C9 HTTP/1.1|Host: x||
-HTTP/1.1 404 Not Found|Content-Type: application/json|Content-Length: 52|Connection: close||{"name":"NoSuchCrew","refusal":2,"result":"refused"}
+HTTP/1.1 404 Not Found|Content-Type: application/json|Content-Length: 52|Cache-Control: no-store|X-Content-Type-Options: nosniff|Cross-Origin-Resource-Policy: same-origin|Connection: close||{"name":"NoSuchCrew","refusal":2,"result":"refused"}
+POST / HTTP/1.1|Host: x|Content-Length: 0||
+HTTP/1.1 405 Method Not Allowed|Content-Type: application/json|Content-Length: 31|Allow: GET, HEAD|Connection: close||{"result":"error","status":405}
 POST /json/exceedances HTTP/1.1|Host: x|Content-Length: 0||
 HTTP/1.1 405 Method Not Allowed|Content-Type: application/json|Content-Length: 31|Allow: GET, HEAD|Connection: close||{"result":"error","status":405}
 GET /crew/c9 HTTP/1.1|Host: x||
@@ -156,9 +183,9 @@ def exchanges():
         yield sent, wire(sent), wire(written.removesuffix("_") + "\n" * written.endswith("_"))
 
 
-def told(*fields, version="1.1"):
-    """A request for the exceedances with these fields."""
-    return wire("|".join([f"GET /exceedances HTTP/{version}", *fields]) + "||")
+def told(*fields, version="1.1", path="/exceedances"):
+    """A request for the exceedances, or for another path, with these fields."""
+    return wire("|".join([f"GET {path} HTTP/{version}", *fields]) + "||")
 
 
 # Requests, with their answers in short.
@@ -232,7 +259,7 @@ ANSWERS = [
     (get("/exceedances?of=C9"), NONE_EXCEEDED),
     (get("HTTP://a.b:80/exceedances"), NONE_EXCEEDED),
     (get("http://a.b/crew/C9?x=/y"), NO_CREW),
-    (get("http://a.b"), 404),
+    (get("http://a.b"), DESK),
     (get("https://a.b/exceedances"), 404),
     (get("/crew/%439"), NO_CREW),
     (get("/crew/C234567890123"), NO_CREW),
@@ -242,7 +269,21 @@ ANSWERS = [
     (get("/reports/limits/c9"), NO_CREW),
     (get("/reports/limits/C9/P9"), NO_CREW),
     (get("http://a.b/reports/limits/C9/P9?x=/y"), NO_CREW),
-    (get("/"), 404),
+    (get("/"), DESK),
+    (get("/?x"), DESK),
+    (get("http://a.b?/exceedances"), DESK),
+    (get(""), 400),
+    (get("//"), 404),
+    (get("/."), 404),
+    (get("/%2f"), 404),
+    (get("/desk"), 404),
+    (get("/index.html"), 404),
+    (get("/favicon.ico"), 404),
+    (told("Host: x", path="/"), DESK),
+    (told("Host: evil.com", path="/"), 403),
+    (told("Host: x", "Origin: http://y", path="/"), 403),
+    (told("Host: x", "Sec-Fetch-Site: cross-site", "Sec-Fetch-Dest: iframe", path="/"), 403),
+    (told("Host: x", "Sec-Fetch-Site: cross-site", "Sec-Fetch-Dest: document", path="/"), DESK),
     (get("/crew"), 404),
     (get("/crew/"), 404),
     (get("/crew/C9/"), 404),
@@ -269,11 +310,11 @@ ANSWERS = [
     # Paths below /json, where there are reports alone.
     (get("/json/exceedances?of=C9"), NONE_EXCEEDED_JSON),
     (get("HTTP://a.b:80/json/exceedances"), NONE_EXCEEDED_JSON),
-    (get("/json/crew/C9"), NO_CREW),
-    (get("/json/crew/%439"), NO_CREW),
-    (get("/json/pairings/P9"), NO_PAIRING),
-    (get("/json/reports/limits/C9"), NO_CREW),
-    (get("/json/reports/limits/C9/P9"), NO_CREW),
+    (get("/json/crew/C9"), NO_CREW_JSON),
+    (get("/json/crew/%439"), NO_CREW_JSON),
+    (get("/json/pairings/P9"), NO_PAIRING_JSON),
+    (get("/json/reports/limits/C9"), NO_CREW_JSON),
+    (get("/json/reports/limits/C9/P9"), NO_CREW_JSON),
     (get("/json/reports/pairings"), report({"pairings": []})),
     (get("/json/reports/open"), report({"pairings": []})),
     (get("/crew/json"), NO_CREW),
@@ -326,6 +367,9 @@ ANSWERS = [
 
 # Paths, with methods that they don't have, and what is said to be allowed.
 OTHER_METHODS = [
+    ("/", "POST", "GET, HEAD"),
+    ("/", "get", "GET, HEAD"),
+    ("/?x", "OPTIONS", "GET, HEAD"),
     ("/requests", "GET", "POST"),
     ("/requests", "HEAD", "POST"),
     ("/requests", "post", "POST"),
@@ -415,7 +459,8 @@ TORN = "\ufeff" + HEADER.replace("\n", "\r\n") + "P1,1,2025-06-10T11:00Z,2025-06
 
 HOUR = [
     ("GET /crew/C1", NO_CREW),
-    ("GET /json/crew/C1", NO_CREW),
+    ("GET /json/crew/C1", NO_CREW_JSON),
+    ("GET /", DESK),
     ("GET /reports/limits/C1", NO_CREW),
     ("GET /json/reports/members", report({"bases": [{"base": "HOME", "zone": EASTERN}], "members": []})),
     # What is only checked is answered, and not done.
@@ -484,8 +529,8 @@ LIMITS C1 captain Ada Ray with B102
         ],
     })),
     ("GET /reports/limits/C1/B999", NO_PAIRING),
-    ("GET /json/reports/limits/C1/B999", NO_PAIRING),
-    ("GET /json/reports/limits/C9/B999", NO_CREW),
+    ("GET /json/reports/limits/C1/B999", NO_PAIRING_JSON),
+    ("GET /json/reports/limits/C9/B999", NO_CREW_JSON),
     ("GET /reports/limits/C1/b102", NO_PAIRING),
     ("GET /reports/limits/C9/B102", NO_CREW),
     ("GET /reports/limits/C9/B999", NO_CREW),
@@ -594,8 +639,8 @@ ROSTER C1 captain Ada Ray
 
 
 def hour():
-    """Each request of the hour with its response; a report also as HEAD has it."""
-    for asked, (status, text) in HOUR:
-        yield request_of(asked), response(status, text)
+    """Each request of the hour with its response; what is shown also as HEAD has it."""
+    for asked, answer in HOUR:
+        yield request_of(asked), response(*answer)
         if isinstance(asked, str) and asked.startswith("GET "):
-            yield get(asked.removeprefix("GET "), "HEAD"), response(status, text, method="HEAD")
+            yield get(asked.removeprefix("GET "), "HEAD"), response(*answer, method="HEAD")

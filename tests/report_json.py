@@ -20,7 +20,7 @@ from contextlib import closing
 from dataclasses import dataclass
 from pathlib import Path
 
-from exchanges import get, refused, response
+from exchanges import UNKEPT, get, refused, response
 from judgement import DAY, ZONES, Period, Training, minute_of, nearest
 from office import SECTIONS, TABLES, TOP, Book, Ran, build, compact, instant, order, rosterbook, told
 from server import serving
@@ -356,7 +356,7 @@ class Report:
 
     @property
     def answered(self):
-        return response(404, refused(*self.refusal)) if self.refusal else response(200, self.text)
+        return response(404, refused(*self.refusal), UNKEPT) if self.refusal else response(200, self.text, UNKEPT)
 
 
 def reports(reading):

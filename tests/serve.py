@@ -31,7 +31,7 @@ from pathlib import Path
 from statistics import median
 
 from exchanges import (
-    ACCEPTED, ANSWERS, CANCEL, CONTINUE, CUT, HEADER, HIRE, HIRED, HOUR, JUNE, LONGEST, NO_CREW, NO_GROUND, NO_PAIRING,
+    ACCEPTED, ANSWERS, CANCEL, CONTINUE, CUT, DESK, HEADER, HIRE, HIRED, HOUR, JUNE, LONGEST, NO_CREW, NO_GROUND, NO_PAIRING,
     NONE_EXCEEDED, NONE_EXCEEDED_JSON, ONE_PAIRING, OTHER_METHODS, STORE, WITH_A_BODY_LEFT, answer_of, body_of, error, exchanges,
     get, hour, parts, post, refused, request_of, response, wire,
 )  # fmt: skip
@@ -105,7 +105,7 @@ def try_hour(desk):
     desk.expect_served(book, list(hour()))
     with serving(other, len(HOUR)) as server:
         for asked, wanted in HOUR:
-            desk.expect(f"http.client: {asked}", told_to_stock(server, asked), wanted)
+            desk.expect(f"http.client: {asked}", told_to_stock(server, asked), wanted[:2])
         desk.expect("the end", server.end(), server.served())
     desk.expect("the tables", other.tables(), book.tables())
 
@@ -232,6 +232,8 @@ def try_curl(desk):
         (response(*NONE_EXCEEDED), "--http1.0", "/exceedances"),
         (response(*NONE_EXCEEDED_JSON), "/json/exceedances"),
         (response(*NONE_EXCEEDED_JSON, method="HEAD"), "--head", "/json/exceedances"),
+        (response(*DESK), "/"),
+        (response(*DESK, method="HEAD"), "--head", "/"),
         (error(405, "GET, HEAD"), "--request", "DELETE", "/crew/C1"),
         (error(413), "--data-binary", f"@{long}", "/requests"),
         (error(501), "--data", "x", "--header", "Transfer-Encoding: chunked", "/requests"),

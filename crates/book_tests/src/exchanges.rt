@@ -39,7 +39,7 @@ HTTP/1.1 200 OK|Content-Type: text/plain; charset=utf-8|Content-Length: 148|Conn
 GET /exceedances HTTP/1.1|Host: x||
 HTTP/1.1 200 OK|Content-Type: text/plain; charset=utf-8|Content-Length: 14|Connection: close||EXCEEDANCES 0_
 GET /json/exceedances HTTP/1.1|Host: x||
-HTTP/1.1 200 OK|Content-Type: application/json|Content-Length: 19|Connection: close||{\"exceedances\":[]}_
+HTTP/1.1 200 OK|Content-Type: application/json|Content-Length: 19|Cache-Control: no-store|X-Content-Type-Options: nosniff|Cross-Origin-Resource-Policy: same-origin|Connection: close||{\"exceedances\":[]}_
 HEAD /crew/C1 HTTP/1.1|Host: x||
 HTTP/1.1 200 OK|Content-Type: text/plain; charset=utf-8|Content-Length: 101|Connection: close||
 GET /crew/c9 HTTP/1.1|Host: x||

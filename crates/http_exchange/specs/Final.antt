@@ -31,7 +31,7 @@ of_no_store is_head = record { status = 503; bytes = no_store is_head }
 -- the final response to the outcome of a handler: its answer, or its fault
 abbrev pub of_answer : Result StatusText HandlerFault → Bool → Final
 of_answer (Ok a) is_head =
-    record { status = a.status; bytes = response a.status a.media_type a.text is_head }
+    record { status = a.status; bytes = response a.status a.media_type a.advice a.text is_head }
 of_answer (Err Store) is_head = of_no_store is_head
 of_answer (Err Memory) is_head = of_no_memory is_head
 

@@ -3,6 +3,7 @@ use Rattle.std.specs.Prelude.{ℕ, List, Result, Ok, Err, string_bytes}
 use Rattle.request.specs.declared.form.Form.{Form}
 use Rattle.request.specs.declared.subject.Subject.{Subject}
 use Rattle.request.specs.Subjects.{subject_copied}
+use Rattle.http_message.specs.Response.{advice_lines}
 use Rattle.http_message.specs.declared.plan.Submission.{Submission}
 use Rattle.http_message.specs.declared.responses.MediaType.{MediaType}
 use Rattle.http_exchange.specs.declared.handler.Request.{Request}
@@ -10,15 +11,18 @@ use Rattle.http_exchange.specs.declared.handler.Request.TheVariants as rust
 use Rattle.http_exchange.specs.declared.handler.Response.{Response}
 use Rattle.http_exchange.specs.declared.handler.HandlerFault.{HandlerFault}
 
--- what a handler is asked: to do what a body says, or to show a report in a form
+-- what a handler is asked: to do what a body says, to show a report in a form, or to show the page
+-- of the desk
 pub data HandlerRequest : Type 0 where
   submit : Submission → List ℕ → HandlerRequest
   show : Subject (List ℕ) (List ℕ) → Form → HandlerRequest
+  show_desk : HandlerRequest
 
--- what a handler answers: a status, and a text with its type
+-- what a handler answers: a status, and a text with its type and the fields for a browser
 pub record StatusText : Type 0 where
   pub status : ℕ
   pub media_type : MediaType
+  pub advice : List ℕ
   pub text : List ℕ
 
 -- ---- requests and responses as the program holds them
@@ -27,10 +31,16 @@ pub record StatusText : Type 0 where
 abbrev pub handler_request : Request → HandlerRequest
 handler_request (rust.Submit to body) = submit to body.now
 handler_request (rust.Show what form) = show (subject_copied what) form
+handler_request rust.ShowDesk = show_desk
 
 -- a response as contracts see it
 abbrev pub answer : Response → StatusText
-answer r = record { status = r.status; media_type = r.media_type; text = string_bytes r.text }
+answer r = record {
+  status = r.status;
+  media_type = r.media_type;
+  advice = advice_lines r.advice;
+  text = string_bytes r.text;
+}
 
 -- a response as contracts see it, or the handler's fault
 abbrev pub answer_or_fault : Result Response HandlerFault → Result StatusText HandlerFault

@@ -4,10 +4,10 @@ use Rattle.std.specs.Io.KnownBytes.{Appends}
 use Rattle.request.specs.Subjects.{subject_copied}
 use Rattle.http_message.specs.Plan.{Planned}
 use Rattle.http_exchange.specs.Exchange.{ChannelBytes, Responds, BreaksOff, asks, interim, unread}
-use Rattle.http_exchange.specs.Handler.{HandlerRequest, StatusText, submit, show}
+use Rattle.http_exchange.specs.Handler.{HandlerRequest, StatusText, submit, show, show_desk}
 use Rattle.http_exchange.specs.declared.handler.HandlerFault.{HandlerFault}
 use Rattle.http_exchange.specs.declared.receiving.Received.{Received}
-use Rattle.http_exchange.specs.declared.receiving.Received.TheVariants.{Body, Report, Answered}
+use Rattle.http_exchange.specs.declared.receiving.Received.TheVariants.{Body, Report, Desk, Answered}
 use Rattle.http_exchange.specs.declared.sending.ChannelFault.{ChannelFault}
 
 -- a handler that answers nothing: what holds of a request with this handler holds of a request that
@@ -35,6 +35,7 @@ abbrev pub IsReceived : Planned → ChannelBytes → ChannelBytes → ChannelByt
 IsReceived p had left out out' (Body to body) = AsksFor p had left out out' (submit to body.items)
 IsReceived p had left out out' (Report what form) =
     AsksFor p had left out out' (show (subject_copied what) form)
+IsReceived p had left out out' Desk = AsksFor p had left out out' show_desk
 IsReceived p had left out out' (Answered code) =
     Responds IsNeverAsked p had left out out' tt tt code
 

@@ -3,7 +3,7 @@ ghost use Rattle.std.specs.Prelude.{Result};
 ghost use Rattle.http_exchange.specs.Handler as spec;
 
 use http::StatusCode;
-use http_message::{MediaType, Submission};
+use http_message::{BrowserAdvice, MediaType, Submission};
 use request::{Form, Subject};
 use std::alloc::Global;
 
@@ -14,6 +14,8 @@ pub enum Request<'a> {
     Submit(Submission, &'a [u8]),
     /// To show the report on this, in this form.
     Show(Subject<&'a str, &'a str>, Form),
+    /// To show the page of the desk.
+    ShowDesk,
 }
 
 /// What a handler answers.
@@ -23,6 +25,8 @@ pub struct Response {
     pub status: StatusCode,
     /// What the text is.
     pub media_type: MediaType,
+    /// How a browser is to treat the text.
+    pub advice: BrowserAdvice,
     /// The text.
     pub text: String,
 }

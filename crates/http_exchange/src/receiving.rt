@@ -1,4 +1,4 @@
-//! What a request whose head was read asks for: a body that is taken in, a report, or nothing.
+//! What a request whose head was read asks for: a body that is taken in, a report, the page of the desk, or nothing.
 //! What clients send and are answered: `tests/exchanges.py`. Wrong bodies: `must-fail-more/`.
 ghost use Rattle.std.specs.Prelude.{◌≡◌, MatchResult};
 ghost use Rattle.std.specs.Io.KnownBytes.{Appends};
@@ -22,6 +22,8 @@ pub(crate) enum Received<'h> {
     Body(Submission, Vec<u8>),
     /// To show the report on this, in this form.
     Report(Subject<&'h str, &'h str>, Form),
+    /// To show the page of the desk.
+    Desk,
     /// Nothing: it was answered under this status.
     Answered(StatusCode),
 }
@@ -46,6 +48,7 @@ pub(crate) fn receive<'h, R: Read, W: Write>(
             Ok(Received::Answered(status))
         }
         HeadAction::Show(subject, form) => Ok(Received::Report(subject, form)),
+        HeadAction::ShowDesk => Ok(Received::Desk),
         HeadAction::Receive(expected) => receive_body(alloc, reader, writer, expected, is_head),
     }
 }

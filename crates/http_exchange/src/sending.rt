@@ -87,6 +87,7 @@ fn send_response<W: Write>(
         alloc,
         answer.status,
         answer.media_type,
+        answer.advice,
         &answer.text,
         is_head,
     ) {

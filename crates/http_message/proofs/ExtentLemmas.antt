@@ -1,5 +1,5 @@
 -- How many bytes settle an input, by its front.
-use Rattle.std.proofs.Common.{◌≡◌, ◌≤◌, ◌||◌, inr, ℕ, Bool, true, false, Option, Some, None, codes, nat_lt, if◌then◌else◌, List, ◌++◌, length, drop, refl, sym, ap, ◌∙◌, subst, arith, append_assoc, length-append}
+use Rattle.std.proofs.Common.{◌≡◌, ◌≤◌, inr, ℕ, Bool, true, false, Option, Some, None, codes, nat_lt, if◌then◌else◌, List, ◌++◌, length, drop, refl, sym, ap, ◌∙◌, subst, arith, append_assoc, length-append}
 use Rattle.httparse.specs.declared.spans.HeaderSpan.{HeaderSpan}
 use Rattle.httparse.specs.declared.spans.RequestSpans.{RequestSpans}
 use Rattle.httparse.specs.Grammar.{RequestHead, HasNoRequest, print_request}
@@ -15,7 +15,7 @@ use Rattle.request.specs.declared.subject.Subject.{Subject}
 use Rattle.http_message.specs.Routes.{PathResource, place_of_path}
 use Rattle.http_message.specs.Routes as place
 use Rattle.http_message.specs.Numbers.{import_number}
-use Rattle.http_message.specs.Plan.{Step, field, imported, is_foreign, is_method, lacks_host, plan_for_head, posted, shown, step_of_place}
+use Rattle.http_message.specs.Plan.{Step, field, imported, desk_shown, is_foreign, is_method, is_to_show, lacks_host, plan_for_head, posted, shown, step_of_place}
 use Rattle.http_message.specs.declared.plan.Submission.{Submission}
 use Rattle.http_message.specs.Extents.{IsExtent, IsExtentOf, NeverHasHead, body_length, waits}
 use Rattle.http_message.specs.declared.extents.Extent.{Extent}
@@ -60,7 +60,10 @@ module _ (h : Heading) (other : is_method h (codes "POST") ≡ false) where
   not_posted to = rw other (refl, refl)
 
   only_shown : (what : Subject (List ℕ) (List ℕ)) (form : Form) → NeedsNoBody (shown h what form)
-  only_shown what form = either_needs_none (is_method h (codes "GET") || is_method h (codes "HEAD")) _ _ (refl, refl) (refl, refl)
+  only_shown what form = either_needs_none (is_to_show h) _ _ (refl, refl) (refl, refl)
+
+  only_shown_too : NeedsNoBody (desk_shown h)
+  only_shown_too = either_needs_none (is_to_show h) _ _ (refl, refl) (refl, refl)
 
   not_imported : (number : Option ℕ) → NeedsNoBody (imported h number)
   not_imported None = (refl, refl)
@@ -69,9 +72,11 @@ module _ (h : Heading) (other : is_method h (codes "POST") ≡ false) where
   no_place_needs_a_body : (named : Option PathResource) (form : Form) → NeedsNoBody (step_of_place h named form)
   no_place_needs_a_body None form = (refl, refl)
   no_place_needs_a_body (Some (place.report what)) form = only_shown what form
+  no_place_needs_a_body (Some place.desk) Text = only_shown_too
   no_place_needs_a_body (Some place.requests) Text = not_posted _
   no_place_needs_a_body (Some place.checks) Text = not_posted _
   no_place_needs_a_body (Some (place.import number)) Text = not_imported (import_number number)
+  no_place_needs_a_body (Some place.desk) Json = (refl, refl)
   no_place_needs_a_body (Some place.requests) Json = (refl, refl)
   no_place_needs_a_body (Some place.checks) Json = (refl, refl)
   no_place_needs_a_body (Some (place.import number)) Json = (refl, refl)

@@ -9,10 +9,10 @@ use Rattle.matchit.specs.Rows.{RowsOf}
 use Rattle.matchit.specs.Router.{RouteOf}
 use Rattle.matchit.specs.Seek.{seek, step, own, or_else, first, param_step, has_slash, segment, cuts}
 use Rattle.http_message.specs.declared.routes.Route.{Route}
-use Rattle.http_message.specs.declared.routes.Route.TheVariants.{Requests, Checks, Import, Crew, Pairing, Exceedances, Limits, LimitsWith, Members, Pairings, OpenPairings}
+use Rattle.http_message.specs.declared.routes.Route.TheVariants.{Requests, Checks, Import, Crew, Pairing, Exceedances, Limits, LimitsWith, Members, Pairings, OpenPairings, Desk}
 use Rattle.request.specs.declared.subject.Listed.TheVariants.{All, Open}
 use Rattle.request.specs.declared.subject.Subject.TheVariants as subject
-use Rattle.http_message.specs.Routes.{PathResource, requests, checks, import, report, place_of_path, route_table, exactly, id_after, ids_after, at_slash, both_ids, is_path_id, first_or_other}
+use Rattle.http_message.specs.Routes.{PathResource, desk, requests, checks, import, report, place_of_path, route_table, exactly, id_after, ids_after, at_slash, both_ids, is_path_id, first_or_other}
 
 -- ---- a walk over rows of any keys
 
@@ -359,8 +359,10 @@ row_of Members = (get_or route_table 7 (codes "", record { pattern = []; text = 
 row_of OpenPairings = (get_or route_table 8 (codes "", record { pattern = []; text = []; names = []; value = Requests })).1
 row_of Pairings = (get_or route_table 9 (codes "", record { pattern = []; text = []; names = []; value = Requests })).1
 row_of Requests = (get_or route_table 10 (codes "", record { pattern = []; text = []; names = []; value = Requests })).1
+row_of Desk = (get_or route_table 11 (codes "", record { pattern = []; text = []; names = []; value = Requests })).1
 
 abbrev pub route_to : PathResource → Route
+route_to desk = Desk
 route_to requests = Requests
 route_to checks = Checks
 route_to (import number) = Import
@@ -575,13 +577,14 @@ under_c (c ∷ p) t = literal_step (step 99 (step 47 route_table)) c p refl refl
 -- the rest of a path after its slash
 abbrev rest_place : List ℕ → Option PathResource
 rest_place p =
-    first_or_other (exactly (codes "requests") requests p)
+    first_or_other (exactly [] desk p)
+    (first_or_other (exactly (codes "requests") requests p)
     (first_or_other (exactly (codes "checks") checks p)
     (first_or_other (option_map import (id_after (codes "imports/") p))
     (first_or_other (option_map crew (id_after (codes "crew/") p))
     (first_or_other (option_map pairing (id_after (codes "pairings/") p))
     (first_or_other (exactly (codes "exceedances") exceedances p)
-    (reports_after (codes "reports/") p))))))
+    (reports_after (codes "reports/") p)))))))
 
 split : (c : ℕ) (p : List ℕ) → IsText p → seek 0 (step c (step 47 route_table)) p ≡ row_to (rest_place (c ∷ p))
 split c p t = by99 (99 == c) refl

@@ -10,8 +10,8 @@ use Rattle.matchit.specs.Rows.{RowsOf}
 use Rattle.matchit.specs.Router.{RouteOf}
 use Rattle.matchit.specs.Seek.{first, segment, has_slash}
 use Rattle.http_message.specs.declared.routes.Route.{Route}
-use Rattle.http_message.specs.declared.routes.Route.TheVariants.{Requests, Checks, Import, Crew, Pairing, Exceedances, Limits, LimitsWith, Members, Pairings, OpenPairings}
-use Rattle.http_message.specs.Routes.{PathResource, requests, checks, import, place_of_path, place_by, route_table, exactly, id_after, ids_after, at_slash, both_ids, is_path_id, first_or_other}
+use Rattle.http_message.specs.declared.routes.Route.TheVariants.{Requests, Checks, Import, Crew, Pairing, Exceedances, Limits, LimitsWith, Members, Pairings, OpenPairings, Desk}
+use Rattle.http_message.specs.Routes.{PathResource, desk, requests, checks, import, place_of_path, place_by, route_table, exactly, id_after, ids_after, at_slash, both_ids, is_path_id, first_or_other}
 use Rattle.http_message.proofs.RouteLemmas.{Found, IsText, is_text, row_of, route_to, row_to, crew, pairing, exceedances, limits, members, pairings, open_pairings, table_found, text_of, IsCut, cut_at_slash, segment_at_slash}
 
 -- ---- parts of a path
@@ -238,7 +238,8 @@ good_ids path front make utf8 each place e = by (ids_after (front ++ 47 ∷ []) 
 
 good_place : (path : List ℕ) → IsUtf8 path → Good path (place_of_path path)
 good_place path utf8 =
-    good_first path _ _ (good_name path (codes "/requests") requests (tt, refl))
+    good_first path _ _ (good_name path (codes "/") desk (tt, refl))
+    (good_first path _ _ (good_name path (codes "/requests") requests (tt, refl))
     (good_first path _ _ (good_name path (codes "/checks") checks (tt, refl))
     (good_first path _ _ (good_id path (codes "/imports") import utf8 import_named)
     (good_first path _ _ (good_id path (codes "/crew") crew utf8 crew_named)
@@ -248,9 +249,10 @@ good_place path utf8 =
     (good_first path _ _ (good_ids path (codes "/reports/limits") (λ ids. limits ids.0 (Some ids.1)) utf8 limits_with_named)
     (good_first path _ _ (good_name path (codes "/reports/members") members (tt, refl))
     (good_first path _ _ (good_name path (codes "/reports/pairings") pairings (tt, refl))
-    (good_name path (codes "/reports/open") open_pairings (tt, refl)))))))))))
+    (good_name path (codes "/reports/open") open_pairings (tt, refl))))))))))))
 
 value_is : (r : Route) → (row_of r).value ≡ r
+value_is Desk = refl
 value_is Requests = refl
 value_is Checks = refl
 value_is Import = refl

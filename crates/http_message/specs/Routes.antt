@@ -16,12 +16,12 @@ use Rattle.http_message.specs.declared.routes.Route.{Route}
 use Rattle.http_message.specs.declared.routes.Route.TheVariants.{Requests, Checks, Import, Crew}
 use Rattle.http_message.specs.declared.routes.Route.TheVariants.{Pairing, Exceedances, Limits}
 use Rattle.http_message.specs.declared.routes.Route.TheVariants.{LimitsWith, Members, Pairings}
-use Rattle.http_message.specs.declared.routes.Route.TheVariants.{OpenPairings}
+use Rattle.http_message.specs.declared.routes.Route.TheVariants.{OpenPairings, Desk}
 
--- what a path names: commands, commands that are only checked, an import by its number, or a report
--- by its subject
+-- what a path names: the page of the desk, commands, commands that are only checked, an import by
+-- its number, or a report by its subject
 pub data PathResource : Type 0 where
-  requests checks : PathResource
+  desk requests checks : PathResource
   import : List ℕ → PathResource
   report : Subject (List ℕ) (List ℕ) → PathResource
 
@@ -66,7 +66,8 @@ exactly name place path = if bytes_eq name path then Some place else None
 -- what a path names by the table of paths
 abbrev pub place_of_path : List ℕ → Option PathResource
 place_of_path path =
-    first_or_other (exactly (codes "/requests") requests path)
+    first_or_other (exactly (codes "/") desk path)
+    (first_or_other (exactly (codes "/requests") requests path)
     (first_or_other (exactly (codes "/checks") checks path)
     (first_or_other (option_map import (id_after (codes "/imports/") path))
     (first_or_other (option_map (λ id. report (subject.Crew id)) (id_after (codes "/crew/") path))
@@ -79,10 +80,11 @@ place_of_path path =
     (ids_after (codes "/reports/limits/") path))
     (first_or_other (exactly (codes "/reports/members") (report subject.Members) path)
     (first_or_other (exactly (codes "/reports/pairings") (report (subject.Pairings All)) path)
-    (exactly (codes "/reports/open") (report (subject.Pairings Open)) path))))))))))
+    (exactly (codes "/reports/open") (report (subject.Pairings Open)) path)))))))))))
 
 -- a resource as contracts see it: the place that a path names
 abbrev pub path_resource : Resource → PathResource
+path_resource resource.Desk = desk
 path_resource resource.Requests = requests
 path_resource resource.Checks = checks
 path_resource (resource.Import number) = import number.now
@@ -101,6 +103,7 @@ limits_with (Some id) other = option_map (λ other. report (subject.Limits id (S
 
 -- what a route leads to, by what its parameters took
 abbrev pub place_by : Route → List (List ℕ × List ℕ) → Option PathResource
+place_by Desk taken = Some desk
 place_by Requests taken = Some requests
 place_by Checks taken = Some checks
 place_by Import taken = option_map import (matched.named (codes "number") taken)
@@ -138,4 +141,5 @@ route_table =
     ∷ row (codes "/reports/open") (codes "/reports/open") [] OpenPairings
     ∷ row (codes "/reports/pairings") (codes "/reports/pairings") [] Pairings
     ∷ row (codes "/requests") (codes "/requests") [] Requests
+    ∷ row (codes "/") (codes "/") [] Desk
     ∷ []

@@ -1,5 +1,5 @@
 //! A response as bytes. The definitions are in `specs/Response.antt`.
-//! What clients are answered: `tests/exchanges.py`. Wrong bodies: `must-fail-more/`.
+//! What clients are answered: `tests/exchanges.py`. Wrong bodies: `must-fail/` and `must-fail-more/`.
 ghost use Rattle.std.specs.Prelude.{◌≡◌, ◌++◌, IfOk, string_bytes};
 ghost use Rattle.http_message.specs.Response as spec;
 
@@ -18,6 +18,19 @@ pub enum MediaType {
     Json,
     /// A report.
     PlainText,
+    /// A page.
+    Html,
+}
+
+/// How a browser is to treat a text.
+#[derive(Clone, Copy)]
+pub enum BrowserAdvice {
+    /// Nothing is said of it.
+    Nothing,
+    /// It isn't kept (RFC 9111, section 5.2.2.5), taken for another type, or given to a page of another site.
+    Unkept,
+    /// It is a page under this policy (Content Security Policy, level 3), which is asked for anew each time.
+    Page(&'static str),
 }
 
 /// Writes a response with a text, which to `HEAD` is left out.
@@ -25,13 +38,14 @@ pub fn response(
     alloc: Global,
     status: StatusCode,
     media_type: MediaType,
+    advice: BrowserAdvice,
     text: &str,
     is_head: bool,
 ) -> Result<String, MemoryFault>
-    ensures { IfOk result
-        (λ it. string_bytes it ≡ spec.response status media_type text.now is_head) }
+    ensures { IfOk result (λ it. string_bytes it
+        ≡ spec.response status media_type (spec.advice_lines advice) text.now is_head) }
 {
-    message(alloc, status, media_type, None, text, is_head)
+    message(alloc, status, media_type, None, advice, text, is_head)
 }
 
 /// Writes the response to a request that is refused: its status, in JSON too.
@@ -49,6 +63,7 @@ pub fn fault_response(
         status,
         MediaType::Json,
         fault.allow(),
+        BrowserAdvice::Nothing,
         &text,
         is_head,
     )
@@ -83,13 +98,14 @@ fn message(
     status: StatusCode,
     media_type: MediaType,
     allow: Option<Methods>,
+    advice: BrowserAdvice,
     text: &str,
     is_head: bool,
 ) -> Result<String, MemoryFault>
-    ensures { IfOk result
-        (λ it. string_bytes it ≡ spec.message status media_type allow text.now is_head) }
+    ensures { IfOk result (λ it. string_bytes it
+        ≡ spec.message status media_type allow (spec.advice_lines advice) text.now is_head) }
 {
-    let mut out = head(alloc, status, media_type, allow, text.len())?;
+    let mut out = head(alloc, status, media_type, allow, advice, text.len())?;
     if !is_head {
         out.push_str(text)?;
     }
@@ -102,14 +118,17 @@ fn head(
     status: StatusCode,
     media_type: MediaType,
     allow: Option<Methods>,
+    advice: BrowserAdvice,
     length: usize,
 ) -> Result<String, MemoryFault>
-    ensures { IfOk result (λ it. string_bytes it ≡ spec.head status media_type allow length) }
+    ensures { IfOk result (λ it. string_bytes it
+        ≡ spec.head status media_type allow (spec.advice_lines advice) length) }
 {
     let mut out = status_line(alloc, status)?;
     out.push_str(type_line(media_type))?;
     out.push_str(&length_line(alloc, length)?)?;
     out.push_str(allow_line(allow))?;
+    out.push_str(&advice_lines(alloc, advice)?)?;
     out.push_str(close_line())?;
     Ok(out)
 }
@@ -129,6 +148,7 @@ fn type_line(media_type: MediaType) -> &'static str
     match media_type {
         MediaType::Json => "Content-Type: application/json\r\n",
         MediaType::PlainText => "Content-Type: text/plain; charset=utf-8\r\n",
+        MediaType::Html => "Content-Type: text/html; charset=utf-8\r\n",
     }
 }
 
@@ -148,6 +168,42 @@ fn allow_line(allow: Option<Methods>) -> &'static str
         Some(Methods::Post) => "Allow: POST\r\n",
         Some(Methods::GetAndHead) => "Allow: GET, HEAD\r\n",
     }
+}
+
+/// Writes the fields that say how a browser is to treat a text.
+fn advice_lines(alloc: Global, advice: BrowserAdvice) -> Result<String, MemoryFault>
+    ensures { IfOk result (λ it. string_bytes it ≡ spec.advice_lines advice) }
+{
+    match advice {
+        BrowserAdvice::Nothing => Ok(String::new(alloc)),
+        BrowserAdvice::Unkept => Ok(String::from_str(alloc, unkept_lines())?),
+        BrowserAdvice::Page(policy) => {
+            let mut out = policy_line(alloc, policy)?;
+            out.push_str(page_lines())?;
+            Ok(out)
+        }
+    }
+}
+
+#[tactic(auto, unfolding(crate::specs::Response::unkept_lines, crate::specs::Response::own_lines))]
+fn unkept_lines() -> &'static str
+    ensures { result.now ≡ spec.unkept_lines }
+{
+    "Cache-Control: no-store\r\nX-Content-Type-Options: nosniff\r\nCross-Origin-Resource-Policy: same-origin\r\n"
+}
+
+#[tactic(auto, unfolding(crate::specs::Response::policy_line))]
+fn policy_line(alloc: Global, policy: &str) -> Result<String, MemoryFault>
+    ensures { IfOk result (λ it. string_bytes it ≡ spec.policy_line policy.now) }
+{
+    Ok(format!(in alloc; "Content-Security-Policy: {policy}\r\n")?)
+}
+
+#[tactic(auto, unfolding(crate::specs::Response::page_lines, crate::specs::Response::own_lines))]
+fn page_lines() -> &'static str
+    ensures { result.now ≡ spec.page_lines }
+{
+    "Cache-Control: no-cache\r\nX-Frame-Options: DENY\r\nReferrer-Policy: no-referrer\r\nCross-Origin-Opener-Policy: same-origin\r\nX-Content-Type-Options: nosniff\r\nCross-Origin-Resource-Policy: same-origin\r\n"
 }
 
 /// Returns the last field, and the empty line that ends the head.

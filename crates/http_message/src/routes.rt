@@ -12,6 +12,8 @@ use values::MemoryFault;
 /// What a path names, with the ids or the number in it.
 #[derive(Clone, Copy)]
 pub enum Resource<'p> {
+    /// The page of the desk.
+    Desk,
     /// Commands.
     Requests,
     /// Commands that are only checked.
@@ -25,6 +27,8 @@ pub enum Resource<'p> {
 /// The routes to them.
 #[derive(Clone, Copy, PartialEq, Eq)]
 pub enum Route {
+    /// To the page of the desk.
+    Desk,
     /// To commands.
     Requests,
     /// To commands that are only checked.
@@ -68,6 +72,7 @@ fn resource_at<'p>(route: Route, params: &Params<'_, 'p>) -> Option<Resource<'p>
         → option_map spec.path_resource result ≡ spec.place_by route (spec.taken params.now) }
 {
     let subject = match route {
+        Route::Desk => return Some(Resource::Desk),
         Route::Requests => return Some(Resource::Requests),
         Route::Checks => return Some(Resource::Checks),
         Route::Import => return Some(Resource::Import(params.get("number")?)),
@@ -115,5 +120,6 @@ fn add_routes(router: &mut Router<Route>) -> Result<(), InsertError>
     router.insert("/reports/members", Route::Members)?;
     router.insert("/reports/pairings", Route::Pairings)?;
     router.insert("/reports/open", Route::OpenPairings)?;
+    router.insert("/", Route::Desk)?;
     Ok(())
 }

@@ -18,7 +18,7 @@ use Rattle.http_exchange.specs.Final.{Final, of_answer, of_fault}
 use Rattle.http_exchange.specs.Handler as http
 use Rattle.http_exchange.specs.Handler.{StatusText, submit}
 use Rattle.web.specs.Acts.{Asks, Commands, IsAnswer, commands_of_body, request_answer}
-use Rattle.web.specs.Answers.{fault_answer, parts_answer, report_answer}
+use Rattle.web.specs.Answers.{desk_answer, fault_answer, parts_answer, report_answer}
 use Rattle.web.specs.Response.{IsFinal, IsResponseTo, WholeResponse}
 
 -- ---- What is asked, and its answer
@@ -58,6 +58,7 @@ module _ (s : State) where
   each_met sound (http.show what form) =
       let shown = each_is_shown_as form s what sound in
       record { commands = []; answer = report_answer form shown.0; asks_them = refl; told = (shown.0, shown.1, refl) }
+  each_met sound http.show_desk = record { commands = []; answer = desk_answer; asks_them = refl; told = refl }
 
   -- ---- The response
 

@@ -46,7 +46,7 @@ use Rattle.http_exchange.specs.Handler.{StatusText, submit}
 use Rattle.http_exchange.specs.declared.handler.HandlerFault.{HandlerFault}
 use Rattle.http_exchange.specs.declared.handler.HandlerFault.TheVariants.{Store, Memory}
 use Rattle.web.specs.Acts.{Commands}
-use Rattle.web.specs.Answers.{IsInJsonUnder, IsResponseToReport, TellsAnswer, answer_status, command_answer, fault_answer, handler_fault_of, json, parts_answer, refusal_status, report_answer, response_to_command, status_of_kind}
+use Rattle.web.specs.Answers.{IsInJsonUnder, IsResponseToReport, TellsAnswer, answer_status, command_answer, desk_answer, fault_answer, handler_fault_of, json, parts_answer, refusal_status, report_answer, response_to_command, status_of_kind}
 use Rattle.web.specs.Handling.{HoldsWhateverIsAsked, IsHandled, IsLeftByCommands, answers_store_fault}
 use Rattle.web.specs.Serving.{StillMeans}
 
@@ -85,6 +85,16 @@ module _ {S : Type 0} (g : Ghosts S) (book : Kept S) where
   -- there was no memory to ask
   pub no_memory : (asked : http.HandlerRequest) → IsHandled g book book asked (Err Memory)
   no_memory asked = record { kept = unasked_kept (Err Memory) refl; shut = λ _. tt; done = λ s at. inl refl }
+
+  -- the page of the desk asks nothing
+  pub desk_handled : (told : Result StatusText HandlerFault) → TellsAnswer desk_answer told → IsHandled g book book http.show_desk told
+  desk_handled (Ok answer) tells = record {
+    kept = unasked_kept (Ok answer) refl;
+    shut = λ _. tells;
+    done = λ s at. ((λ _. tells), ([], refl, (at, λ tables. tables)));
+  }
+  desk_handled (Err Store) tells = absurd tells
+  desk_handled (Err Memory) tells = no_memory http.show_desk
 
   -- a body that isn't read asks nothing
   pub command_unread : (body : List ℕ) (fault : CodecFault) (told : Result StatusText HandlerFault) → read_request body ≡ Err fault → TellsAnswer (fault_answer fault) told

@@ -32,6 +32,7 @@ one_list (submit Command body) a b is is' = is ∙ sym is'
 one_list (submit Check body) a b is is' = is ∙ sym is'
 one_list (submit (Import number) body) a b is is' = one_import number body a b is is'
 one_list (http.show what form) a b is is' = is ∙ sym is'
+one_list http.show_desk a b is is' = is ∙ sym is'
 
 -- ---- the answer
 
@@ -50,6 +51,7 @@ module _ (s : State) where
   one_answer (submit (Import number) body) a b is is' = one_schedule_answer number body a b is is'
   one_answer (http.show what form) a b (shown, is, told) (shown', is', told') =
       told ∙ ap (report_answer form) (one_shown_as form s what shown shown' is is') ∙ sym told'
+  one_answer http.show_desk a b is is' = is ∙ sym is'
 
   -- ---- the response
 

@@ -18,7 +18,8 @@ use Rattle.http_exchange.specs.declared.handler.HandlerFault.{HandlerFault}
 use Rattle.http_exchange.specs.declared.handler.HandlerFault.TheVariants as fault
 use Rattle.asking.specs.Reports.{IsShownAs}
 use Rattle.asking.specs.Requests.{asked_as}
-use Rattle.web.specs.Answers.{command_answer, fault_answer, parts_answer, report_answer}
+use Rattle.web.specs.Answers.{command_answer, desk_answer, fault_answer, parts_answer}
+use Rattle.web.specs.Answers.{report_answer}
 
 -- commands, each under its key
 abbrev pub Commands : Type 0
@@ -30,7 +31,8 @@ commands_of_body (Ok read) = asked_as read ∷ []
 commands_of_body (Err fault) = []
 
 -- The commands that a request asks: the command of a body that is read, or the parts of a schedule.
--- A body that isn't read, a command that is only checked and a report ask none.
+-- A body that isn't read, a command that is only checked, a report and the page of the desk ask
+-- none.
 abbrev pub Asks : http.HandlerRequest → Commands → Type 0
 Asks (submit Command body) commands = commands ≡ commands_of_body (read_request body)
 Asks (submit Check body) commands = commands ≡ []
@@ -38,6 +40,7 @@ Asks (submit (Import number) body) commands =
     ((plans : List Plan) × IsSchedule body plans × (commands ≡ import number plans))
     ⊎ ((line : ℕ) × IsAtFault body line × (commands ≡ []))
 Asks (http.show what form) commands = commands ≡ []
+Asks http.show_desk commands = commands ≡ []
 
 module _ (s : State) where
   -- the answer to a body: the book's answer to its command, or, if it isn't read, why it isn't
@@ -58,6 +61,7 @@ module _ (s : State) where
   IsAnswer (http.show what form) answer =
       (shown : Result (List ℕ) Absence) × IsShownAs form s what shown
       × (answer ≡ report_answer form shown)
+  IsAnswer http.show_desk answer = answer ≡ desk_answer
 
 -- ---- a book that has failed
 
@@ -71,13 +75,15 @@ abbrev pub IsCommandBody : List ℕ → Type 0
 IsCommandBody body =
     (number : ℕ) × (instruction : Instruction) × (read_request body ≡ Ok (number, instruction))
 
--- a body isn't read, and the answer says why, in whichever state the book is
+-- a body isn't read, and the answer says why, or the page of the desk is shown, in whichever state
+-- the book is
 abbrev pub IsToldUnread : http.HandlerRequest → StatusText → Type 0
 IsToldUnread (submit Command body) answer = IsNoCommand body answer
 IsToldUnread (submit Check body) answer = IsNoCommand body answer
 IsToldUnread (submit (Import number) body) answer =
     (line : ℕ) × IsAtFault body line × (answer ≡ fault_answer (BadCsv line))
 IsToldUnread (http.show what form) answer = ⊥
+IsToldUnread http.show_desk answer = answer ≡ desk_answer
 
 -- the request is a command or a schedule that is read, or a report
 abbrev pub IsRead : http.HandlerRequest → Type 0
@@ -85,9 +91,10 @@ IsRead (submit Command body) = IsCommandBody body
 IsRead (submit Check body) = IsCommandBody body
 IsRead (submit (Import number) body) = (plans : List Plan) × IsSchedule body plans
 IsRead (http.show what form) = ⊤
+IsRead http.show_desk = ⊥
 
--- what a book that has failed answers: why a body isn't read; to a request that is read, that its
--- store failed; or that there was no memory
+-- what a book that has failed answers: why a body isn't read, or the page of the desk; to a request
+-- that is read, that its store failed; or that there was no memory
 abbrev pub IsAnsweredShut : http.HandlerRequest → Result StatusText HandlerFault → Type 0
 IsAnsweredShut asked (Ok answer) = IsToldUnread asked answer
 IsAnsweredShut asked (Err fault.Store) = IsRead asked

@@ -10,7 +10,7 @@ ghost use Rattle.book.specs.Calls.{IsAfterCalls};
 ghost use Rattle.book.specs.Kept.{IsDurablyAt, IsClean};
 ghost use Rattle.web.specs.Serving as spec;
 
-use crate::answers::{respond, show};
+use crate::answers::{respond, show, show_desk};
 use crate::imports::answer_schedule;
 use asking::{ask_report, ask_request, check_request};
 use book::Book;
@@ -43,15 +43,16 @@ impl<S: Alter> Handler<Book<S>> for BookHandler {
             Request::Show(subject, form) => {
                 show(alloc, *form, ask_report(alloc, book, *subject, *form))
             }
+            Request::ShowDesk => show_desk(alloc),
         }
     }
 }
 
 /// Reads a request, has the book answer it, and writes the response (RFC 9112): a command, which may only be checked, a
-/// schedule to be imported, or a report.
+/// schedule to be imported, a report, or the page of the desk.
 /// Nothing is read past the head and the body that it announces. Where the book's store fails (90) or no memory is found (91), 503
 /// says so; after 91 the request may be made again, under its number. A book that has failed does nothing more: a body that isn't
-/// read is refused all the same, and what is read gets 503 (90).
+/// read is refused all the same, the page is shown, and what is read gets 503 (90).
 pub fn exchange<R: Read, W: Write, S: Alter>(
     alloc: Global,
     reader: &mut R,

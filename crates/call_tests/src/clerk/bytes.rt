@@ -22,6 +22,14 @@ HEAD /requests HTTP/1.1|Host: x||
 HTTP/1.1 405 Method Not Allowed|Content-Type: application/json|Content-Length: 31|Allow: POST|Connection: close||
 PUT /pairings/P1 HTTP/1.1|Host: x||
 HTTP/1.1 405 Method Not Allowed|Content-Type: application/json|Content-Length: 31|Allow: GET, HEAD|Connection: close||{\"result\":\"error\",\"status\":405}
+GET /json/exceedances HTTP/1.1|Host: x||
+HTTP/1.1 200 OK|Content-Type: application/json|Content-Length: 18|Cache-Control: no-store|X-Content-Type-Options: nosniff|Cross-Origin-Resource-Policy: same-origin|Connection: close||{\"exceedances\":[]}
+GET / HTTP/1.1|Host: x||
+HTTP/1.1 200 OK|Content-Type: text/html; charset=utf-8|Content-Length: 16|Content-Security-Policy: default-src 'none'|Cache-Control: no-cache|X-Frame-Options: DENY|Referrer-Policy: no-referrer|Cross-Origin-Opener-Policy: same-origin|X-Content-Type-Options: nosniff|Cross-Origin-Resource-Policy: same-origin|Connection: close||<!DOCTYPE html>_
+HEAD / HTTP/1.1|Host: x||
+HTTP/1.1 200 OK|Content-Type: text/html; charset=utf-8|Content-Length: 16|Content-Security-Policy: default-src 'none'|Cache-Control: no-cache|X-Frame-Options: DENY|Referrer-Policy: no-referrer|Cross-Origin-Opener-Policy: same-origin|X-Content-Type-Options: nosniff|Cross-Origin-Resource-Policy: same-origin|Connection: close||
+POST / HTTP/1.1|Host: x||
+HTTP/1.1 405 Method Not Allowed|Content-Type: application/json|Content-Length: 31|Allow: GET, HEAD|Connection: close||{\"result\":\"error\",\"status\":405}
 GET /crew/C9 HTTP/1.1|Host: x||
 HTTP/1.1 404 Not Found|Content-Type: application/json|Content-Length: 52|Connection: close||{\"name\":\"NoSuchCrew\",\"refusal\":2,\"result\":\"refused\"}
 HEAD /crew/C9 HTTP/1.1|Host: x||

@@ -24,8 +24,12 @@ POST /requests HTTP/1.1|Transfer-Encoding: chunked|| => 400 -
 DELETE /nothing HTTP/1.1|Host: x|transfer-encoding: gzip|| => 501 0 
 GET http://a.b:80/crew/C9?x=/y HTTP/1.1|Host: x|| => 404 0 Text of Crew(\"C9\")
 GET HTTP://a.b/exceedances HTTP/1.1|Host: x|| => 200 0 Text of Exceedances
-GET http://a.b HTTP/1.1|Host: x|| => 404 0 
-GET http://a.b?/exceedances HTTP/1.1|Host: x|| => 404 0 
+GET http://a.b HTTP/1.1|Host: x|| => 200 0 desk
+GET http://a.b?/exceedances HTTP/1.1|Host: x|| => 200 0 desk
+GET / HTTP/1.1|Host: x||more => 200 4 desk
+HEAD /?x HTTP/1.1|Host: x|| => 200 0 desk
+GET // HTTP/1.1|Host: x|| => 404 0 
+POST / HTTP/1.1|Host: x|Content-Length: 2||ab => 405 2 
 GET https://a.b/exceedances HTTP/1.1|Host: x|| => 404 0 
 GET /exceedances?of=C9 HTTP/1.1|Host: x|| => 200 0 Text of Exceedances
 GET /crew/%439 HTTP/1.1|Host: x|| => 200 0 Text of Crew(\"%439\")

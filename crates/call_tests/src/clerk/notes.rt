@@ -1,7 +1,7 @@
 //! A handler for tests.
 use http::StatusCode;
 use http_exchange::{Handler, HandlerFault, Request, Response};
-use http_message::{MediaType, Submission};
+use http_message::{BrowserAdvice, MediaType, Submission};
 use std::alloc::{AllocError, Global};
 use std::str::from_utf8;
 
@@ -41,6 +41,7 @@ fn note_of(alloc: Global, request: &Request<'_>) -> Result<String, AllocError> {
             format!(in alloc; "import {} {}", number.get(), text_of(body))
         }
         Request::Show(subject, form) => format!(in alloc; "{form:?} of {subject:?}"),
+        Request::ShowDesk => String::from_str(alloc, "desk"),
     }
 }
 
@@ -50,28 +51,46 @@ fn text_of(bytes: &[u8]) -> &str {
 
 fn answer_to(alloc: Global, note: &str) -> Result<Response, HandlerFault> {
     match note {
+        "desk" => answer_of(
+            alloc,
+            StatusCode::OK,
+            MediaType::Html,
+            BrowserAdvice::Page("default-src 'none'"),
+            "<!DOCTYPE html>\n",
+        ),
+        "Json of Exceedances" => answer_of(
+            alloc,
+            StatusCode::OK,
+            MediaType::Json,
+            BrowserAdvice::Unkept,
+            "{\"exceedances\":[]}",
+        ),
         "Text of Exceedances" => answer_of(
             alloc,
             StatusCode::OK,
             MediaType::PlainText,
+            BrowserAdvice::Nothing,
             "EXCEEDANCES 0\n",
         ),
         "Text of Crew(\"C9\")" => answer_of(
             alloc,
             StatusCode::NOT_FOUND,
             MediaType::Json,
+            BrowserAdvice::Nothing,
             "{\"name\":\"NoSuchCrew\",\"refusal\":2,\"result\":\"refused\"}",
         ),
         "command {\"number\":1,\"do\":\"cancel-ground\",\"ground\":\"G1\"}" => answer_of(
             alloc,
             StatusCode::CONFLICT,
             MediaType::Json,
+            BrowserAdvice::Nothing,
             "{\"name\":\"NoSuchGround\",\"refusal\":15,\"result\":\"refused\"}",
         ),
         "command " => answer_of(
             alloc,
             StatusCode::UNPROCESSABLE_ENTITY,
             MediaType::Json,
+            BrowserAdvice::Nothing,
             "{\"field\":\"body\",\"name\":\"BadJson\",\"refusal\":31,\"result\":\"refused\"}",
         ),
         "command store" => Err(HandlerFault::Store),
@@ -80,6 +99,7 @@ fn answer_to(alloc: Global, note: &str) -> Result<Response, HandlerFault> {
             alloc,
             StatusCode::OK,
             MediaType::Json,
+            BrowserAdvice::Nothing,
             "{\"exceedances\":[],\"result\":\"accepted\"}",
         ),
     }
@@ -89,12 +109,14 @@ fn answer_of(
     alloc: Global,
     status: StatusCode,
     media_type: MediaType,
+    advice: BrowserAdvice,
     text: &str,
 ) -> Result<Response, HandlerFault> {
     match String::from_str(alloc, text) {
         Ok(text) => Ok(Response {
             status,
             media_type,
+            advice,
             text,
         }),
         Err(_) => Err(HandlerFault::Memory),

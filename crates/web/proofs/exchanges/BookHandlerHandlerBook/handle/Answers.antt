@@ -3,7 +3,7 @@ use Rattle.request.specs.Subjects.{subject_copied}
 use Rattle.http_message.specs.declared.plan.Submission.TheVariants.{Check, Command}
 use Rattle.http_exchange.specs.Handler.{answer_or_fault, submit}
 use Rattle.web.specs.Handling.{IsHandled}
-use Rattle.web.proofs.Handled.{check_handled, report_handled, request_handled}
+use Rattle.web.proofs.Handled.{check_handled, desk_handled, report_handled, request_handled}
 use Rattle.web.proofs.exchanges.BookHandlerHandlerBook.handle.Goals as goal
 
 pub returns-in-Submit-Command-default : goal.returns-in-Submit-Command-default
@@ -27,3 +27,6 @@ returns-in-Show g c =
     let it = c.ask_report.ensures in
     rw c.in-Show.is (report_handled g.S.Store c.args.book.now c.ask_report.new.book (subject_copied c.in-Show.subject) c.in-Show.form it.calls c.ask_report.result (answer_or_fault c.show.result)
     it.asked c.show.ensures)
+
+pub returns-in-ShowDesk : goal.returns-in-ShowDesk
+returns-in-ShowDesk g c = rw c.in-ShowDesk.is (desk_handled g.S.Store c.args.book.now (answer_or_fault c.show_desk.result) c.show_desk.ensures)

@@ -1,0 +1,183 @@
+#!/usr/bin/env python3
+"""Puts the parts of the desk together into one page, and writes it into the crate `desk` as a constant.
+
+    desk/make.py            writes crates/desk/src/page.rt and policy.rt
+    desk/make.py --check    says whether the two agree with the parts; the exit status is 1 where they don't
+    desk/make.py --print    prints the page
+
+`shell.html` has a place for the style, which is made of `style/*.css` in the order of STYLES, and one for the script. The parts of the
+script are modules that say what they import; here they become one module, each behind those that it imports, without its imports. So no
+two parts may have the same name at the top, and none may import itself by a detour. Comments are left out of the page, and blanks that
+mean nothing. The policy allows one script and one style, by their hashes, and nothing else.
+"""
+
+import base64
+import hashlib
+import re
+import sys
+from pathlib import Path
+
+HERE = Path(__file__).resolve().parent
+CRATE = HERE.parent / "crates" / "desk" / "src"
+STYLES = ("base", "pieces", "board", "narrow", "print")
+LAST = "start"  # the part of the script that begins all
+MOST = 110_000  # bytes of the page
+
+IMPORT = re.compile(r"^import \{ ([^}]*) \} from '\./(\w+)\.js';$", re.M)
+DECLARED = re.compile(r"^(export )?(async function|function|const|let|class) (.*)$", re.M)
+BRACKETS = re.compile(r"\([^()]*\)|\[[^][]*\]|\{[^{}]*\}|'[^']*'")
+
+POLICY = (
+    "default-src 'none'; script-src {script}; style-src {style}; connect-src 'self'; img-src data:; base-uri 'none'; form-action 'none'; "
+    "frame-ancestors 'none'; require-trusted-types-for 'script'; trusted-types 'none'"
+)
+
+
+class Fault(Exception):
+    """The parts don't fit together."""
+
+
+# ---- The script.
+
+
+def declared(kind, rest):
+    """The names that a line declares at the top of a part, from behind its first word on."""
+    if kind not in ("const", "let"):
+        return re.findall(r"^[\w$]+", rest)
+    while (plain := BRACKETS.sub("_", rest)) != rest:
+        rest = plain
+    return re.findall(r"(?:^|, )([\w$]+)(?= = |,|;)", re.split(r"[({\[]", rest)[0])
+
+
+class Part:
+    """A part of the script: its text, the names at its top, those that it exports, and what it imports from where."""
+
+    def __init__(self, path):
+        self.name = path.stem
+        self.text = path.read_text()
+        found = [(name, export) for export, kind, rest in DECLARED.findall(self.text) for name in declared(kind, rest)]
+        self.names = [name for name, _ in found]
+        self.exported = {name for name, export in found if export}
+        self.imports = [(module, name) for names, module in IMPORT.findall(self.text) for name in names.split(", ")]
+        self.body = IMPORT.sub("", self.text).replace("\nexport ", "\n")
+
+
+def in_order(parts):
+    """The parts, each behind those that it imports."""
+    ordered = []
+
+    def add(name, above):
+        if name in above:
+            raise Fault(f"{' imports '.join([*above, name])}")
+        if name not in ordered:
+            for module, _ in parts[name].imports:
+                add(module, (*above, name))
+            ordered.append(name)
+
+    add(LAST, ())
+    return [parts[name] for name in dict.fromkeys(ordered)]
+
+
+def parts_of_script():
+    """The parts in order, after a look at whether they fit together."""
+    parts = {path.stem: Part(path) for path in sorted((HERE / "script").glob("*.js"))}
+    owners = {}
+    for part in parts.values():
+        for name in part.names:
+            if name in owners:
+                raise Fault(f"{name} stands in {owners[name]}.js and in {part.name}.js")
+            owners[name] = part.name
+        for module, name in part.imports:
+            if module not in parts or name not in parts[module].exported:
+                raise Fault(f"{part.name}.js imports {name}, which {module}.js doesn't export")
+            if not re.search(rf"(?<![\w$])(?<![^.]\.){re.escape(name)}(?![\w$])", part.body):
+                raise Fault(f"{part.name}.js imports {name} for nothing")
+        if "import" in part.body.split():
+            raise Fault(f"{part.name}.js has an import of another form")
+    ordered = in_order(parts)
+    if unused := parts.keys() - {part.name for part in ordered}:
+        raise Fault(f"nothing imports {', '.join(sorted(unused))}")
+    return ordered
+
+
+# ---- The page.
+
+
+def without_blanks(text, comment):
+    """The lines that aren't empty, without comments and the blanks around them."""
+    lines = (re.sub(comment, "", line).strip() for line in text.splitlines())
+    return "".join(f"{line}\n" for line in lines if line)
+
+
+def without_inner_blanks(text):
+    """Lines of a script without the blanks round its signs; one in which such a blank may mean something stays as it is."""
+
+    def plain(line):
+        if re.search(r"[`/]|\+ \+", line):
+            return line
+        parts = re.split(r"('[^']*')", line)
+        parts[::2] = [re.sub(r" ?(=>|[=!]==|&&|\|\||\?\?|[{}=,;:?]) ?", r"\1", part) for part in parts[::2]]
+        return "".join(parts)
+
+    return "".join(plain(line) for line in text.splitlines(keepends=True))
+
+
+def page():
+    """The text of the page."""
+    style = "".join(without_blanks((HERE / "style" / f"{name}.css").read_text(), r"^/\*.*\*/$") for name in STYLES)
+    style = re.sub(r" ?([{};,>]) ?|(:) ", r"\1\2", style)
+    script = "".join(without_blanks(part.body, r"(^|  )//.*$") for part in parts_of_script())
+    script = without_inner_blanks(script)
+    shell = without_blanks((HERE / "shell.html").read_text(), r"^<!--.*-->$")
+    made = shell.replace("@STYLE@\n", style).replace("@SCRIPT@\n", script)
+    if len(made.encode()) > MOST:
+        raise Fault(f"the page has {len(made.encode())} bytes")
+    if '"##' in made:
+        raise Fault('the page has "##, which ends the literal')
+    return made
+
+
+def policy(made):
+    """The policy for a page: what it may load, and that no text becomes a part of it as markup."""
+
+    def hash_of(tag):
+        (text,) = re.findall(rf"<{tag}[^>]*>(.*?)</{tag}>", made, re.S)
+        return "'sha256-" + base64.b64encode(hashlib.sha256(text.encode()).digest()).decode() + "'"
+
+    return POLICY.format(script=hash_of("script"), style=hash_of("style"))
+
+
+def sources():
+    """The two sources that are made, by their paths."""
+    made = page()
+    return {
+        CRATE / "page.rt": "//! Written by `desk/make.py` from the parts in `desk/`.\n\n"
+        f'/// The page, in HTML.\npub const PAGE: &str = r##"{made}"##;\n',
+        CRATE / "policy.rt": "//! Written by `desk/make.py`: it has the hashes of the script and the style of the page.\n\n"
+        f'/// What a browser lets the page do.\npub const POLICY: &str =\n    "{policy(made)}";\n',
+    }
+
+
+def main():
+    try:
+        made = sources()
+    except Fault as fault:
+        print(f"desk/make.py: {fault}", file=sys.stderr)
+        return 1
+    if "--print" in sys.argv:
+        print(page(), end="")
+        return 0
+    if "--check" in sys.argv:
+        others = [path for path, text in made.items() if not path.exists() or path.read_text() != text]
+        for path in others:
+            print(f"desk/make.py: {path.relative_to(HERE.parent)} isn't what desk/ makes", file=sys.stderr)
+        return 1 if others else 0
+    CRATE.mkdir(parents=True, exist_ok=True)
+    for path, text in made.items():
+        path.write_text(text)
+    print(f"{len(page().encode())} bytes")
+    return 0
+
+
+if __name__ == "__main__":
+    sys.exit(main())

@@ -1,0 +1,55 @@
+// The members, and the bases with their zones; forms that add one.
+
+import { act, isDone } from './acting.js';
+import { $, h } from './dom.js';
+import { known } from './known.js';
+import { tell } from './messages.js';
+import { empty, heads, link, select } from './pieces.js';
+import { RULES, shownAt17, zoneOf } from './zones.js';
+
+const clocks = zone => `at 17:00 UTC a clock there shows ${shownAt17(zone, 0)} on 15 January and ${shownAt17(zone, 6)} on 15 July`;
+const textField = most => h('input', { required: true, maxlength: most, spellcheck: 'false', autocomplete: 'off' });
+
+function memberForm() {
+  const id = textField(12), name = textField(60), seat = select([['captain', 'captain'],
+    ['first officer', 'first officer']]), base = select(known.bases.map(it => [it.base, it.base]), 'HOME');
+  function add(e) {
+    e.preventDefault();
+    const command = { do: 'add-crew', crew: id.value, seat: seat.value, name: name.value, ...(base.value === 'HOME' ? {} : { base: base.value }) };
+    act(command, `${name.value} (${id.value}) is a member`).then(answer => isDone(answer) && $('main').querySelector('form input')?.focus());
+  }
+  return h('form.card', { onsubmit: add }, h('h2', 'Add a member'),
+    h('div.fields', h('label', 'Id', id), h('label', 'Name', name), h('label', 'Seat', seat), h('label', 'Base', base)),
+    h('p.soft.small', 'Id, seat, name and base can’t be changed later. Tables A and B go by the clock of the base.'),
+    h('div', h('button.main', 'Add member')));
+}
+
+function baseForm() {
+  const id = textField(12), rule = h('input', { list: 'rules', required: true, maxlength: 64, spellcheck: 'false', autocomplete: 'off',
+    placeholder: RULES[0][0] }), hint = h('span.hint');
+  rule.addEventListener('input', () => {
+    const zone = zoneOf(rule.value);
+    hint.textContent = zone ? `Check it: ${clocks(zone)}.` : rule.value && 'not a rule yet';
+  });
+  function add(e) {
+    e.preventDefault();
+    if (!zoneOf(rule.value)) return tell(false, 'This is no POSIX rule.',
+      h('p', `Take one such as ${RULES[0][0]}. It has the hours west of UTC, and when daylight saving time begins and ends.`));
+    act({ do: 'add-base', base: id.value, zone: rule.value }, `The base ${id.value} is there`);
+  }
+  return h('form.card', { onsubmit: add }, h('h2', 'Add a base'), h('div.fields', h('label', 'Id', id), h('label', 'Zone, a POSIX rule', rule, hint)),
+    h('p.soft.small', 'A base can’t be changed or removed: check its zone first.'), h('div', h('button.main', 'Add base')));
+}
+function baseRow({ base, zone }) {
+  const read = zoneOf(zone);
+  return h('tr', h('td', base), h('td', h('code', zone), read && h('span.soft.small.below', clocks(read))));
+}
+const memberLine = it => h('tr', h('td', link('member/' + it.crew, it.crew)), h('td', h('bdi', it.name)), h('td', it.seat), h('td', it.base));
+const list = (name, columns, rows) => h('div.scroll.card.flat', h('table', h('caption.sr', name), heads(columns), h('tbody', rows)));
+
+export function membersScreen() {
+  const members = list('Members', ['Id', 'Name', 'Seat', 'Base'], known.members.map(memberLine));
+  const bases = list('Bases', ['Base', 'Zone'], known.bases.map(baseRow));
+  return [h('h1', { tabindex: -1 }, 'Members'), h('div.two', h('div.stack', known.members.length ? members : empty('The book has no members yet.')),
+    h('div.stack', memberForm(), baseForm(), bases))];
+}

@@ -1,0 +1,101 @@
+// A pairing: its seats, with who may fly it; its periods, as planned and as flown; cancelling it.
+
+import { act, isDone, release } from './acting.js';
+import { closePanel } from './address.js';
+import { unlessLost } from './asking.js';
+import { candidates } from './candidates.js';
+import { clockName, days, until, when } from './clock.js';
+import { h } from './dom.js';
+import { flownForm } from './flown.js';
+import { hm, signed } from './instants.js';
+import { SEATS, detailOf, exceededBy, freeSeats, nameOf, pairingOf } from './known.js';
+import { startMarks } from './marks.js';
+import { heads, memberLink, pending, seatName, tag, twice } from './pieces.js';
+import { inWords, limitName } from './refusals.js';
+import { swaps } from './swaps.js';
+
+const route = it => it.periods.flatMap((p, n) => p.plan.segments.flatMap((s, k) => n || k ? [s.to] : [s.from, s.to])).join('–');
+
+// A time in force; behind one that isn't as planned, by how much.
+const held = (text, m, plan) => [text, m !== plan && h('span.soft.late', ` ${signed(m - plan)}`)];
+
+function periodTable(it, period) {
+  const { plan } = period, now = period.flown ?? plan;
+  const row = (segment, n) => {
+    const { out, in: end } = now.segments[n], cells = [segment.flight, segment.from, held(until(now.report, out), out, segment.out), segment.to,
+      held(until(now.report, end), end, segment.in), hm(end - out)];
+    return h('tr', cells.map(cell => h('td', cell)));
+  };
+  const edge = (name, m, planned) => h('tr', h('td.soft', { colspan: 2 }, name), h('td', { colspan: 4 }, held(when(m), m, planned)));
+  return h('div.scroll', h('table.segments.num.small', h('caption.sr', `Period ${period.period} of ${it.pairing}`),
+    heads(['Flight', 'From', 'Out', 'To', 'In', 'Block']),
+    h('tbody', edge('Report', now.report, plan.report), plan.segments.map(row), edge('Release', now.release, plan.release))));
+}
+
+function recordedOf(it, period) {
+  const lines = SEATS.flatMap(seat => {
+    const crew = it.seats[seat], sections = exceededBy({ crew, key: `pairing ${it.pairing}/${period.period}` }) ?? [];
+    return [...sections].map(section => h('p', h('b', section), ` ${limitName(section)}: `, h('bdi', nameOf(crew)), ` (${crew})`));
+  });
+  return lines.length > 0 && h('div.note.bad', lines);
+}
+
+function periodCard(it, period) {
+  const isCrewed = !freeSeats(it).length;
+  const fill = () => {
+    const old = card.querySelector('form'), form = old ? null : flownForm(it, period);
+    old?.remove();
+    if (form) { card.append(form); form.querySelector('input').focus(); }
+  };
+  const card = h('section.card', { 'aria-label': `Period ${period.period}` },
+    h('div.line.end', h('h3', `Period ${period.period} `, tag(period.flown)), h('span.num', `FDP ${hm(period.fdp)} · flight ${hm(period.flight)}`)),
+    recordedOf(it, period), periodTable(it, period),
+    h('div.line.noprint',
+      h('button', { 'data-key': `fly ${period.period}`, disabled: !isCrewed, onclick: fill },
+        period.flown ? 'Correct flown times' : 'Enter flown times'),
+      !isCrewed && h('span.soft.small', 'needs both seats')));
+  return card;
+}
+
+function seatLine(it, seat, open) {
+  const crew = it.seats[seat], name = nameOf(crew);
+  const button = (verb, sign, press) => h('button', { 'data-key': `${verb} ${seat}`, 'aria-label': `${verb} ${name}`, onclick: press }, verb + sign);
+  const buttons = () => h('span.line.noprint', button('Release', '', () => release(crew, name, it.pairing)),
+    button('Replace', '…', () => open(stop => candidates(it.pairing, seat, stop, crew))), button('Swap', '…', () => open(stop => swaps(it, seat, stop))));
+  return h('li.candidate', h('span', h('span.soft', seatName(seat) + ' '), crew ? memberLink(crew) : h('b.bad', 'free')), crew && !it.isFlown && buttons());
+}
+
+function cancelling(it) {
+  const isHeld = freeSeats(it).length < SEATS.length, words = `${it.pairing} is cancelled`;
+  const cancel = () => act({ do: 'cancel-pairing', pairing: it.pairing }, words).then(answer => isDone(answer) && closePanel());
+  return h('div.line.noprint', twice('Cancel pairing', `Cancel ${it.pairing} for good?`, cancel, { disabled: isHeld }),
+    isHeld && h('span.soft.small', 'release both seats first'));
+}
+
+function parts(it, stop, heading) {
+  const extra = h('div.stack');
+  let inner = new AbortController();
+  const open = make => {
+    inner.abort();
+    inner = new AbortController();
+    startMarks(it.pairing);
+    extra.replaceChildren(make(AbortSignal.any([stop, inner.signal])));
+    extra.querySelector('button, input')?.focus();
+  };
+  startMarks(it.pairing);
+  return [
+    h('div.line.end', h(heading, { tabindex: -1 }, `Pairing ${it.pairing} `, tag(it.isFlown)),
+      h('span.soft.num', `${days(it)} · ${clockName()}`)),
+    h('p.num', route(it)), h('ul.plain', SEATS.map(seat => seatLine(it, seat, open))), extra,
+    !it.isFlown && freeSeats(it).map(seat => candidates(it.pairing, seat, stop)), it.periods.map(p => periodCard(it,
+      p)), !it.isFlown && cancelling(it),
+  ];
+}
+
+// A whole screen, or the panel beside one.
+export function pairingView(id, stop, isScreen) {
+  const heading = isScreen ? 'h1' : 'h2', title = h(heading, { tabindex: -1 }, `Pairing ${id}`), isThere = pairingOf(id);
+  const box = h('div.stack.pairing', title, isThere ? pending() : inWords(4));
+  if (isThere) detailOf(id, stop).then(it => box.replaceChildren(h('div.stack', parts(it, stop, heading)))).catch(unlessLost);
+  return box;
+}

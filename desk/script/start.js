@@ -1,0 +1,97 @@
+// The beginning: the head of the page, what the page listens to, and the first reading of the book.
+
+import { sendAgain } from './acting.js';
+import { beside, go } from './address.js';
+import { NoAnswer } from './asking.js';
+import { chooseClock, clock, zones } from './clock.js';
+import { $, h } from './dom.js';
+import { drawDrag, isDragged } from './drag.js';
+import { focusOn } from './gridkeys.js';
+import { help, listenToKeys } from './keys.js';
+import { known, memberOf, openPairings, pairingOf, readAgain, readLists } from './known.js';
+import { marks } from './marks.js';
+import { tell, watchLine } from './messages.js';
+import { reading } from './reading.js';
+import { drawMark, drawRow } from './rows.js';
+import { drawMine, show } from './screens.js';
+import { view } from './view.js';
+import { RULES } from './zones.js';
+
+const OLD = 60_000;  // milliseconds, after which the book is read again when somebody comes back to the page
+const FOUND = 3000;  // pairings that the field offers
+
+function drawHead() {
+  $('openCount').textContent = openPairings().length;
+  $('exceededCount').textContent = known.exceedances.length;
+  $('exceededCount').classList.toggle('red', known.exceedances.length > 0);
+  $('clock').replaceChildren(...['UTC', ...zones.keys()].map(base => h('option', { value: base, selected: base === clock.base },
+    base === 'UTC' ? 'UTC' : `${base} time`)));
+  $('ids').replaceChildren(...known.members.map(it => h('option', { value: it.crew }, it.name)),
+    ...known.pairings.slice(-FOUND).map(it => h('option', { value: it.pairing }, 'pairing')));
+  drawMine();
+}
+function setClock(base) {
+  chooseClock(base);
+  drawHead();
+  show({ isAnew: true });
+}
+function nextClock() {
+  const all = ['UTC', ...zones.keys()];
+  setClock(all[(all.indexOf(clock.base) + 1) % all.length]);
+}
+function find(text) {
+  const word = text.trim().toUpperCase(), named = word && known.members.find(it => it.name.toUpperCase().includes(word));
+  if (memberOf(word)) go('member/' + word);
+  else if (pairingOf(word)) go('pairing/' + word);
+  else if (named) go('member/' + named.crew);
+  else tell(false, `Nothing is named ${word}.`, h('p', 'Type the id of a member or of a pairing, or a part of a name.'));
+}
+
+function listen() {
+  document.addEventListener('click', e => {
+    const bar = e.target.closest('.duty');
+    if (!bar) return;
+    focusOn(bar);
+    location.hash = beside(bar.dataset.to);
+  });
+  // What is typed stays when the book is read again, until it is sent.
+  document.addEventListener('input', e => {
+    if (!e.target.matches('textarea, input:not([type=search], [type=checkbox], [type=radio], [type=file])')) return;
+    e.target.dataset.typed = '1';
+    e.target.closest('form')?.removeAttribute('data-sent');
+  });
+  document.addEventListener('submit', e => { e.target.dataset.sent = '1'; }, true);
+  document.addEventListener('visibilitychange', () => { if (!document.hidden && Date.now() - known.readAt > OLD) readAgain(); });
+  addEventListener('hashchange', () => show());
+  addEventListener('beforeprint', () => { for (const [crew, row] of view.rows) if (!row.isDrawn) drawRow(crew, true); });
+  $('skip').addEventListener('click', e => { e.preventDefault(); $('main').focus(); });
+  $('find').addEventListener('keydown', e => { if (e.key === 'Enter') { find(e.target.value); e.target.value = ''; } });
+  $('clock').addEventListener('change', e => setClock(e.target.value));
+  $('help').addEventListener('click', help);
+  $('again').addEventListener('click', () => readAgain());
+  listenToKeys(nextClock);
+}
+
+async function firstReading() {
+  for (;;) {
+    try {
+      return await readLists();
+    } catch (why) {
+      if (!(why instanceof NoAnswer)) throw why;
+      await new Promise(done => setTimeout(done, 2000));
+    }
+  }
+}
+async function start() {
+  $('rules').replaceChildren(...RULES.map(([rule, name]) => h('option', { value: rule }, name)));
+  known.recount = drawHead;
+  watchLine(() => reading.members(1), () => known.readAt && readAgain());
+  await firstReading();
+  known.redraw = isGentle => show({ isAnew: true, isGentle });
+  marks.draw = crew => { drawMark(crew); if (isDragged()) drawDrag(); };
+  listen();
+  show();
+  document.documentElement.dataset.ready = '1';
+  sendAgain();
+}
+start();

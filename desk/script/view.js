@@ -1,0 +1,44 @@
+// What the board shows: from when to when, whose rows, how wide. And where an instant stands in it.
+
+import { addDays, addMonths, bestMonth, dayOf, midnight, monthOf, weekday, ymd } from './clock.js';
+import { go } from './address.js';
+import { now } from './instants.js';
+import { keep, kept } from './kept.js';
+import { known } from './known.js';
+
+export const ZOOMS = { week: ['Week', 7], fortnight: ['2 weeks', 14], month: ['Month', 0] };  // with so many days; a month has its own
+const CROWDED = 36;  // pixels of a day
+
+export const view = {
+  from: 0, to: 0, zoom: 'month', width: 1000,
+  seat: '', word: '',  // whose rows
+  rows: new Map(),  // of the members that it has
+  isSlim() { return this.width / this.days.length < CROWDED; },
+  days: [],
+};
+export const place = m => (m - view.from) / (view.to - view.from) * 100;  // per cent of the width
+export const isShown = it => it.end > view.from && it.begin < view.to;
+
+// The Monday on or before today, or on or before the first pairing of a month.
+function bestWeek(month) {
+  const next = addMonths(month, 1), today = now(), begins = known.pairings.map(it => it.begin).filter(m => m >= month && m < next);
+  const day = dayOf(today >= month && today < next ? today : begins.length ? Math.min(...begins) : month);
+  return addDays(day, -((weekday(day) + 6) % 7));
+}
+
+// Takes the days from the address: `2025-06-01/month`.
+export function chooseView(day, zoom) {
+  view.zoom = Object.hasOwn(ZOOMS, zoom ?? '') ? zoom : kept('zoom', 'month');
+  keep('zoom', view.zoom);
+  const [, count] = ZOOMS[view.zoom], [year, month, date] = (day ?? '').split('-').map(Number);
+  const isDay = date && year >= 2000 && year < 2100, first = isDay ? midnight(year, month - 1, date) : bestMonth(known.pairings.map(it => it.begin),
+    now());
+  view.from = !count ? monthOf(first) : isDay ? first : bestWeek(first);
+  view.to = count ? addDays(view.from, count) : addMonths(view.from, 1);
+  view.days = [];
+  for (let n = 0; addDays(view.from, n) < view.to; n++) view.days.push(addDays(view.from, n));
+  view.rows.clear();
+}
+export const goTo = (m, zoom = view.zoom) => go(`board/${ymd(m)}/${zoom}`);
+export const step = n => goTo(ZOOMS[view.zoom][1] ? addDays(view.from, n * ZOOMS[view.zoom][1]) : addMonths(view.from, n));
+export const zoomTo = zoom => goTo(view.zoom === 'month' && zoom !== 'month' ? bestWeek(view.from) : view.from, zoom);
