@@ -380,7 +380,7 @@ def try_first_hour(seen, visitor):
     book = seen.book()
     with at_desk(seen, visitor, book) as person:
         person.open()
-        seen.expect("an empty book says what to do", person.sees("no members yet. Add the first one, then import a schedule."))
+        seen.expect("an empty book says what to do", person.sees("no members yet. Add the first one, then import a schedule, or write a pairing by hand."))
         person.press("Add the first one", "main")
         for crew, name, seat in (("C1", "Ada Ray", "captain"), ("F1", "Bo Lund", "first officer")):
             person.fill("Id", crew, "form")
@@ -388,6 +388,7 @@ def try_first_hour(seen, visitor):
             person.fill("Seat", seat, "form")
             person.press("Add member")
             seen.expect(f"{crew} is told", person.sees(f"{name} ({crew}) is a member."))
+            seen.expect("and nothing else", re.findall(r"^\W?\d+$", person.text("#told"), re.M), [])
         person.fill("Id", "C1", "form")
         person.fill("Name", "Ada Ray", "form")
         person.press("Add member")
@@ -405,7 +406,7 @@ def try_first_hour(seen, visitor):
         person.press("Assign Bo Lund", "#panel")
         seen.expect("both fly", person.sees("Captain Ada Ray C1", "#panel") and person.sees("First officer Bo Lund F1", "#panel"))
         person.press("B102", "main")
-        seen.expect("by how much", person.sees("the rest before B102/1 is 9:30, at least 10:00 must be", "#panel"))
+        seen.expect("by how much", person.sees("the rest before B102/1 is 9:30, and must be at least 10:00", "#panel"))
         person.press("B103", "main")
         seen.expect("B103 is allowed", person.sees("1 of 1 may", "#panel"))
         person.go("pairing/B101")
@@ -455,7 +456,7 @@ def try_first_month(seen, visitor):
         seen.expect("an exceedance, told before", person.sees("recorded for good"))
         person.press("Record flown times")
         write_pairing(person, "B104", ("2025-06-17 16:00", "18 0630"), (("RB7", "DEN", "1630", "BOS", "2030"), ("RB8", "BOS", "18 0129", "DEN", "0559")))
-        seen.expect("by the clock of HOME", person.sees("the flight duty period of B104/1 is 13:59, at most 13:00 may be"))
+        seen.expect("by the clock of HOME", person.sees("the flight duty period of B104/1 is 13:59, and may be at most 13:00"))
         person.press("Assign Lee Roy")
         person.go("member/C9")
         seen.expect("the roster of C9", person.sees("Tue 17 Jun B104/1 planned 16:00 – 06:30 +1 13:59 8:30", "main"))
@@ -470,7 +471,7 @@ def try_first_month(seen, visitor):
         person.press("Record", f"{form} form > div:last-child")
         seen.expect("recorded", person.sees("Flying X2 of Bo Lind (C2) for another airline is recorded."))
         write_pairing(person, "B105", ("2025-06-16 10:00", "1900"), (("RB9", "BOS", "1100", "IAD", "1245"), ("RB10", "IAD", "1645", "BOS", "1830")))
-        seen.expect("the rest is short", person.sees("the rest before B105/1 is 9:00, at least 10:00 must be"))
+        seen.expect("the rest is short", person.sees("the rest before B105/1 is 9:00, and must be at least 10:00"))
         person.go("member/C2+outside/C2/X2")
         person.press("Correct its times")
         for name, text in (("Out 2", "2030"), ("In 2", "2300"), ("Release", "2330")):
@@ -515,7 +516,7 @@ def try_drag(seen, visitor):
     with at_desk(seen, visitor, book) as person:
         person.open("board/2025-06-01/month")
         person.drag("B102", "C1")
-        words = "the rest before B102/1 is 9:30, at least 10:00 must be"
+        words = "the rest before B102/1 is 9:30, and must be at least 10:00"
         seen.expect("why not, in the air", person.sees(f"B102 to Ada Ray: {words}", ".drag"))
         person.drop()
         seen.expect("refused", person.sees("Refused: Ada Ray (C1) flies B102.", "#told"))

@@ -13,7 +13,7 @@ function touched(command, answer) {
   crews.push(...ids.flatMap(id => Object.values(pairingOf(id)?.seats ?? {})));
   return { crews: crews.filter(Boolean), ids };
 }
-const recorded = answer => answer.exceedances?.length &&
+const recorded = answer => answer.exceedances?.length > 0 &&
   h('p.bad', 'On record: ', answer.exceedances.map(it => `${it.crew} exceeds ${it.section}, ${limitName(it.section)}`).join('; '), '.');
 
 // `words` say what is so once it is done; `undo`, if there is an opposite, is `{ command, words }`.

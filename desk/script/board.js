@@ -76,7 +76,7 @@ export function boardScreen([day, zoom], stop) {
     h('div.line.end', clock.base === 'UTC' ? 'UTC' : `${clock.base} time`, h('span', 'flight'))), days);
   const sheet = h('div.sheet', { style: { '--days': view.days.length } }, head, columns(), known.members.map(memberRow),
     !known.members.length && h('p.empty', 'The book has no members yet. ', link('members', 'Add the first one'), ', then ',
-      link('import', 'import a schedule'), '.'));
+      link('import', 'import a schedule, or write a pairing by hand'), '.'));
   const grid = h('div', { class: `gantt ${view.zoom}`, role: 'grid', id: 'grid',
     'aria-label': `Duties, ${title}, ${clockName()}. Arrow keys move from duty to duty.`, onkeydown: boardKeys }, sheet);
   queueMicrotask(() => {  // (once it has its place in the page)

@@ -7,7 +7,7 @@ import { h } from './dom.js';
 import { iso, plural } from './instants.js';
 import { known, pairingOf, readLists } from './known.js';
 import { tell } from './messages.js';
-import { heads, repeated } from './pieces.js';
+import { heads, repeated, upper } from './pieces.js';
 import { explained, wrongOf } from './refusals.js';
 import { HEADER, readSchedule, sheetsOf } from './schedule.js';
 import { sendSchedule } from './sending.js';
@@ -72,7 +72,6 @@ function periodFields(before, n) {
   it.box = h('fieldset.stack', h('legend', `Period ${n + 1}`), h('div.fields', it.report), it.segments.box, h('div.fields', it.release));
   return it;
 }
-const upper = field => field.value.trim().toUpperCase();
 const planOf = p => ({
   report: iso(p.report.at), release: iso(p.release.at),
   segments: p.segments.list.map(s => ({ flight: upper(s.flight), from: upper(s.from), out: iso(s.out.at), to: upper(s.to), in: iso(s.in.at) })),

@@ -4,7 +4,7 @@ import { act, isDone } from './acting.js';
 import { $, h } from './dom.js';
 import { known } from './known.js';
 import { tell } from './messages.js';
-import { empty, heads, link, select } from './pieces.js';
+import { empty, heads, link, select, upper } from './pieces.js';
 import { RULES, shownAt17, zoneOf } from './zones.js';
 
 const clocks = zone => `at 17:00 UTC a clock there shows ${shownAt17(zone, 0)} on 15 January and ${shownAt17(zone, 6)} on 15 July`;
@@ -15,8 +15,8 @@ function memberForm() {
     ['first officer', 'first officer']]), base = select(known.bases.map(it => [it.base, it.base]), 'HOME');
   function add(e) {
     e.preventDefault();
-    const command = { do: 'add-crew', crew: id.value, seat: seat.value, name: name.value, ...(base.value === 'HOME' ? {} : { base: base.value }) };
-    act(command, `${name.value} (${id.value}) is a member`).then(answer => isDone(answer) && $('main').querySelector('form input')?.focus());
+    const command = { do: 'add-crew', crew: upper(id), seat: seat.value, name: name.value, ...(base.value === 'HOME' ? {} : { base: base.value }) };
+    act(command, `${name.value} (${upper(id)}) is a member`).then(answer => isDone(answer) && $('main').querySelector('form input')?.focus());
   }
   return h('form.card', { onsubmit: add }, h('h2', 'Add a member'),
     h('div.fields', h('label', 'Id', id), h('label', 'Name', name), h('label', 'Seat', seat), h('label', 'Base', base)),
@@ -35,7 +35,7 @@ function baseForm() {
     e.preventDefault();
     if (!zoneOf(rule.value)) return tell(false, 'This is no POSIX rule.',
       h('p', `Take one such as ${RULES[0][0]}. It has the hours west of UTC, and when daylight saving time begins and ends.`));
-    act({ do: 'add-base', base: id.value, zone: rule.value }, `The base ${id.value} is there`);
+    act({ do: 'add-base', base: upper(id), zone: rule.value }, `The base ${upper(id)} is there`);
   }
   return h('form.card', { onsubmit: add }, h('h2', 'Add a base'), h('div.fields', h('label', 'Id', id), h('label', 'Zone, a POSIX rule', rule, hint)),
     h('p.soft.small', 'A base can’t be changed or removed: check its zone first.'), h('div', h('button.main', 'Add base')));

@@ -8,6 +8,8 @@ export const memberLink = crew => h('span', link('member/' + crew, h('bdi', name
 export const tag = isFlown => h('span', { class: isFlown ? 'tag flown' : 'tag plan' }, isFlown ? 'flown' : 'planned');
 export const seatName = seat => seat === 'captain' ? 'Captain' : 'First officer';
 export const heads = names => h('thead', h('tr', names.map(name => h('th', { scope: 'col' }, name))));
+// What is in a field of an id, a flight or an airport: all have capital letters.
+export const upper = field => field.value.trim().toUpperCase();
 export const pending = () => h('p.soft', 'Reading…');
 export const empty = (...parts) => h('p.empty.card', parts);
 

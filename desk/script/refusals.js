@@ -57,9 +57,9 @@ export const windowText = it => it.duty ? '' : it.from == null ? 'before 2000' :
 
 export function limitText(it) {
   const [, words, kind] = LIMITS[it.section], used = hm(it.minutes), limit = hm(it.limit);
-  if (kind === 'rest') return `${words} ${it.duty} is ${used}, at least ${limit} must be`;
-  if (kind === 'table') return `${words} of ${it.duty} is ${used}, at most ${limit} may be`;
-  return `${words} ${windowText(it)} is ${used}, at most ${limit} may be`;
+  if (kind === 'rest') return `${words} ${it.duty} is ${used}, and must be at least ${limit}`;
+  if (kind === 'table') return `${words} of ${it.duty} is ${used}, and may be at most ${limit}`;
+  return `${words} ${windowText(it)} is ${used}, and may be at most ${limit}`;
 }
 const limitLine = (text, section) => h('p.bad', text, h('span.soft', ` (${section})`));
 

@@ -162,6 +162,7 @@ dd{margin:0}
 .dayname b{display:block;font-size:.95rem;font-variant-numeric:tabular-nums}
 .dayname.today b{color:var(--on);background:var(--accent);border-radius:9px;width:1.7em;margin:auto}
 .weekend{background:var(--shade)}
+.sheet>.empty{position:relative;z-index:4;background:var(--card)}
 .columns{position:absolute;inset:2.6rem 0 0 var(--left);pointer-events:none}
 .columns i{position:absolute;top:0;bottom:0;border-left:1px solid var(--hair)}
 .columns .quarter{border-left-style:dotted}
@@ -642,9 +643,9 @@ const isRest=section=>LIMITS[section][2]==='rest';
 const windowText = it => it.duty ? '' : it.from == null ? 'before 2000' : `from ${dated(it.from)}`;
 function limitText(it){
 const [,words,kind]=LIMITS[it.section],used=hm(it.minutes),limit=hm(it.limit);
-if (kind === 'rest') return `${words} ${it.duty} is ${used}, at least ${limit} must be`;
-if (kind === 'table') return `${words} of ${it.duty} is ${used}, at most ${limit} may be`;
-return `${words} ${windowText(it)} is ${used}, at most ${limit} may be`;
+if (kind === 'rest') return `${words} ${it.duty} is ${used}, and must be at least ${limit}`;
+if (kind === 'table') return `${words} of ${it.duty} is ${used}, and may be at most ${limit}`;
+return `${words} ${windowText(it)} is ${used}, and may be at most ${limit}`;
 }
 const limitLine = (text, section) => h('p.bad', text, h('span.soft', ` (${section})`));
 async function broken(crew,pairing,sections){
@@ -752,7 +753,7 @@ const crews=[command.crew,command.other_crew,...(answer.exceedances??[]).map(it=
 crews.push(...ids.flatMap(id=>Object.values(pairingOf(id)?.seats??{})));
 return{crews:crews.filter(Boolean),ids};
 }
-const recorded=answer=>answer.exceedances?.length&&
+const recorded=answer=>answer.exceedances?.length > 0&&
 h('p.bad', 'On record: ', answer.exceedances.map(it => `${it.crew} exceeds ${it.section}, ${limitName(it.section)}`).join('; '), '.');
 async function act(command,words,undo){
 const answer=await send(command,words);
@@ -827,6 +828,7 @@ const memberLink = crew => h('span', link('member/' + crew, h('bdi', nameOf(crew
 const tag=isFlown=>h('span',{class:isFlown?'tag flown':'tag plan'},isFlown?'flown':'planned');
 const seatName=seat=>seat==='captain'?'Captain':'First officer';
 const heads=names=>h('thead',h('tr',names.map(name=>h('th',{scope:'col'},name))));
+const upper=field=>field.value.trim().toUpperCase();
 const pending=()=>h('p.soft','Reading…');
 const empty=(...parts)=>h('p.empty.card',parts);
 function select(options,value,attributes){
@@ -1231,7 +1233,7 @@ const head=h('div.days',{role:'row'},h('div',{role:'columnheader',class:'small s
 h('div.line.end', clock.base === 'UTC' ? 'UTC' : `${clock.base} time`, h('span', 'flight'))), days);
 const sheet=h('div.sheet',{style:{'--days':view.days.length}},head,columns(),known.members.map(memberRow),
 !known.members.length&&h('p.empty','The book has no members yet. ',link('members','Add the first one'),', then ',
-link('import','import a schedule'),'.'));
+link('import','import a schedule, or write a pairing by hand'),'.'));
 const grid = h('div', { class: `gantt ${view.zoom}`, role: 'grid', id: 'grid',
 'aria-label': `Duties, ${title}, ${clockName()}. Arrow keys move from duty to duty.`, onkeydown: boardKeys }, sheet);
 queueMicrotask(()=>{
@@ -1472,7 +1474,6 @@ it.release=timeField('Release',{near:()=>it.segments.list.at(-1).in.at??it.repor
 it.box = h('fieldset.stack', h('legend', `Period ${n + 1}`), h('div.fields', it.report), it.segments.box, h('div.fields', it.release));
 return it;
 }
-const upper=field=>field.value.trim().toUpperCase();
 const planOf=p=>({
 report:iso(p.report.at),release:iso(p.release.at),
 segments:p.segments.list.map(s=>({flight:upper(s.flight),from:upper(s.from),out:iso(s.out.at),to:upper(s.to),in:iso(s.in.at)})),
@@ -1662,8 +1663,8 @@ const id=textField(12),name=textField(60),seat=select([['captain','captain'],
 ['first officer','first officer']]),base=select(known.bases.map(it=>[it.base,it.base]),'HOME');
 function add(e){
 e.preventDefault();
-const command={do:'add-crew',crew:id.value,seat:seat.value,name:name.value,...(base.value==='HOME'?{}:{base:base.value})};
-act(command, `${name.value} (${id.value}) is a member`).then(answer => isDone(answer) && $('main').querySelector('form input')?.focus());
+const command={do:'add-crew',crew:upper(id),seat:seat.value,name:name.value,...(base.value==='HOME'?{}:{base:base.value})};
+act(command, `${name.value} (${upper(id)}) is a member`).then(answer => isDone(answer) && $('main').querySelector('form input')?.focus());
 }
 return h('form.card',{onsubmit:add},h('h2','Add a member'),
 h('div.fields',h('label','Id',id),h('label','Name',name),h('label','Seat',seat),h('label','Base',base)),
@@ -1681,7 +1682,7 @@ function add(e){
 e.preventDefault();
 if (!zoneOf(rule.value)) return tell(false,'This is no POSIX rule.',
 h('p', `Take one such as ${RULES[0][0]}. It has the hours west of UTC, and when daylight saving time begins and ends.`));
-act({ do: 'add-base', base: id.value, zone: rule.value }, `The base ${id.value} is there`);
+act({ do: 'add-base', base: upper(id), zone: rule.value }, `The base ${upper(id)} is there`);
 }
 return h('form.card',{onsubmit:add},h('h2','Add a base'),h('div.fields',h('label','Id',id),h('label','Zone, a POSIX rule',rule,hint)),
 h('p.soft.small','A base can’t be changed or removed: check its zone first.'),h('div',h('button.main','Add base')));

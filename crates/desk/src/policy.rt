@@ -2,4 +2,4 @@
 
 /// What a browser lets the page do.
 pub const POLICY: &str =
-    "default-src 'none'; script-src 'sha256-+pNo3i/+TxfohktvZiSwnCweoUS5VsYmRKPw9p8Es8E='; style-src 'sha256-SANTmY7Lb2NgyIHOlDUeMpm0L4GvVSE46Q0zxObMkJk='; connect-src 'self'; img-src data:; base-uri 'none'; form-action 'none'; frame-ancestors 'none'; require-trusted-types-for 'script'; trusted-types 'none'";
+    "default-src 'none'; script-src 'sha256-YvQh7rVELs/NKJQlhTW7zktkcjaoZ/XdMWihxbHb3o8='; style-src 'sha256-D6CSJeZMJL5TtuIZKuOXh8bxRxPeifV0DU/jrazT/J8='; connect-src 'self'; img-src data:; base-uri 'none'; form-action 'none'; frame-ancestors 'none'; require-trusted-types-for 'script'; trusted-types 'none'";
