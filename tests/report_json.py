@@ -23,6 +23,7 @@ from pathlib import Path
 from exchanges import UNKEPT, get, refused, response
 from judgement import DAY, ZONES, Period, Training, minute_of, nearest
 from office import SECTIONS, TABLES, TOP, Book, Ran, build, compact, instant, order, rosterbook, told
+from reports import A_LATE_PERIOD
 from server import serving
 
 HOME, ARIZONA, LONDON = (ZONES[base].rule for base in ("HOME", "PHX", "LON"))
@@ -75,20 +76,8 @@ FLOWN = """
     fly P2 1 22: 10:35 | 12:05-14:10, 15:00-17:25 | 20:50
 """
 
-# C1 flies on 6, 7 and 8 June, P13A together with F1, and P13B ten hours after it. P13A is flown eleven hours late.
-LATE = """
-    plan P06 6: 12:00 | 13:00-15:00, 21:00-+1 00:00 | +1 00:00
-    assign P06 C1
-    plan P07 7: 12:00 | 13:00-15:00, 21:00-+1 00:00 | +1 00:00
-    assign P07 C1
-    plan P08 8: 12:00 | 13:00-15:00, 21:00-+1 00:30 | +1 00:30
-    assign P08 C1
-    plan P13A 10: 11:00 | 12:00-20:00 | 20:30
-    assign P13A C1
-    assign P13A F1
-    plan P13B 11: 06:30 | 07:30-10:30 | 11:00
-    assign P13B C1
-    113 fly P13A 1 10: 11:00 | 23:00-+1 07:00 | +1 07:30
+# The late period of tests/reports.py, and an outside period of F1.
+LATE = A_LATE_PERIOD + """
     114 outside X1 F1 20: 12:00 | 13:00-+2 13:00, +3 14:00-+3 15:00 | +3 16:00
 """
 
