@@ -8,7 +8,7 @@
 `shell.html` has a place for the style, which is made of `style/*.css` in the order of STYLES, and one for the script. The parts of the
 script are modules that say what they import; here they become one module, each behind those that it imports, without its imports. So no
 two parts may have the same name at the top, and none may import itself by a detour. Comments are left out of the page, and blanks that
-mean nothing. The policy allows one script and one style, by their hashes, and nothing else.
+mean nothing; `const` is `let` there. The policy allows one script and one style, by their hashes, and nothing else.
 """
 
 import base64
@@ -25,6 +25,8 @@ MOST = 110_000  # bytes of the page
 
 IMPORT = re.compile(r"^import \{ ([^}]*) \} from '\./(\w+)\.js';$", re.M)
 DECLARED = re.compile(r"^(export )?(async function|function|const|let|class) (.*)$", re.M)
+TEMPLATE = r"`(?:\$\{(?:`[^`]*`|[^`}])*\}|\$(?!\{)|[^`$])*`"  # also one that has others in it
+LITERALS = re.compile(rf"('[^']*'|{TEMPLATE})")
 BRACKETS = re.compile(r"\([^()]*\)|\[[^][]*\]|\{[^{}]*\}|'[^']*'")
 
 POLICY = (
@@ -103,32 +105,35 @@ def parts_of_script():
 # ---- The page.
 
 
-def without_blanks(text, comment):
-    """The lines that aren't empty, without comments and the blanks around them."""
-    lines = (re.sub(comment, "", line).strip() for line in text.splitlines())
-    return "".join(f"{line}\n" for line in lines if line)
+def lines_of(text, comment, made=str):
+    """The text without comments, empty lines and blanks around lines, each made anew. What stands indented, or ends it, has one line with
+    what is before it."""
+    lines = []
+    for line in text.splitlines():
+        code = made(re.sub(comment, "", line).strip())
+        if code and line[0] in " }])" and lines:
+            is_apart = re.search(r"[\w$]$", lines[-1]) and re.match(r"[\w$]", code)
+            lines[-1] += f" {code}" if is_apart else code
+        elif code:
+            lines.append(code)
+    return "".join(f"{line}\n" for line in lines)
 
 
-def without_inner_blanks(text):
-    """Lines of a script without the blanks round its signs; one in which such a blank may mean something stays as it is."""
-
-    def plain(line):
-        if re.search(r"[`/]|\+ \+", line):
-            return line
-        parts = re.split(r"('[^']*')", line)
-        parts[::2] = [re.sub(r" ?(=>|[=!]==|&&|\|\||\?\?|[{}=,;:?]) ?", r"\1", part) for part in parts[::2]]
-        return "".join(parts)
-
-    return "".join(plain(line) for line in text.splitlines(keepends=True))
+def squeezed(line):
+    """A line of a script without the blanks round its signs; one that has more than texts in which they mean something stays as it is."""
+    parts = LITERALS.split(re.sub(r"^((?:export )?|for \()const ", r"\1let ", line))
+    if any(re.search(r"[`'\"/]|([+-]) \1", part.replace(" / ", "")) for part in parts[::2]):
+        return line
+    parts[::2] = [re.sub(r" ?([-+*/<>=!&|?{}()[\],;:]+) ?", r"\1", part) for part in parts[::2]]
+    return "".join(parts)
 
 
 def page():
     """The text of the page."""
-    style = "".join(without_blanks((HERE / "style" / f"{name}.css").read_text(), r"^/\*.*\*/$") for name in STYLES)
+    style = "".join(lines_of((HERE / "style" / f"{name}.css").read_text(), r"^/\*.*\*/$") for name in STYLES)
     style = re.sub(r" ?([{};,>]) ?|(:) ", r"\1\2", style)
-    script = "".join(without_blanks(part.body, r"(^|  )//.*$") for part in parts_of_script())
-    script = without_inner_blanks(script)
-    shell = without_blanks((HERE / "shell.html").read_text(), r"^<!--.*-->$")
+    script = "".join(lines_of(part.body, r"(^|  )//.*$| /\*.*\*/", squeezed) for part in parts_of_script())
+    shell = lines_of((HERE / "shell.html").read_text(), r"^<!--.*-->$")
     made = shell.replace("@STYLE@\n", style).replace("@SCRIPT@\n", script)
     if len(made.encode()) > MOST:
         raise Fault(f"the page has {len(made.encode())} bytes")

@@ -6,7 +6,8 @@
 
 Each duty is an event. Its UID is made of the ids of the member and of the duty, so a calendar that imports the duties again has each
 of them once, at its times now. A duty that was taken from the member isn't in the new file, and no import removes its event: so import
-into a calendar that has nothing else, and empty it before. The same book gives the same file.
+into a calendar that has nothing else, and empty it before. The same book gives the same file. A member without a duty has no calendar: it
+would have no event, which the RFC doesn't allow.
 """
 
 import argparse
@@ -14,7 +15,7 @@ import sys
 
 sys.dont_write_bytecode = True  # so that nothing is left beside the scripts
 
-from reports import add_source, in_order, instant, key, name, needs, source_of, span, standing
+from reports import add_source, in_order, instant, key, name, needs, source_of, span, standing, stop
 
 try:
     from icalendar import Calendar, Event, vDatetime
@@ -110,6 +111,8 @@ def main():
         needs("icalendar", "python3-icalendar")
     source = source_of(asked)
     roster = source.roster(asked.crew)
+    if not roster["duties"]:
+        stop(f"{asked.crew} has no duty, so there is no calendar")
     ids = {duty["pairing"] for duty in roster["duties"] if duty["kind"] == "pairing"}
     pairings = {pairing: source.pairing(pairing) for pairing in sorted(ids)}
     sys.stdout.buffer.write(calendar_of(roster, pairings).to_ical())

@@ -16,6 +16,7 @@ import base64
 import hashlib
 import json
 import os
+import random
 import re
 import socket
 import subprocess
@@ -25,11 +26,12 @@ import threading
 import time
 from contextlib import contextmanager
 from dataclasses import dataclass, field
+from datetime import datetime
 from pathlib import Path
 
 from browser import PATIENCE, browser, console, lacks
 from exchanges import response
-from office import TOP, Book, build, order
+from office import TOP, Book, build, order, rosterbook
 from server import LOOPBACK, serving
 
 DESK = TOP / "desk"
@@ -121,7 +123,7 @@ def try_text(seen):
 def try_refusals(seen):
     text = (TOP / "docs" / "REFUSALS.md").read_text()
     there = re.findall(r"^\| (\d+) \| (.*?) \| (.*?) \|$", text.partition("## On the desk")[2].partition("\n## ")[0], re.M)
-    here = re.findall(r"^(\d+):\['(.*?)','(.*?)'\],$", literal(PAGE), re.M)
+    here = re.findall(r"\b(\d+):\['(.*?)','(.*?)'\],", re.search(r"^let REFUSALS=\{(.*)\};$", literal(PAGE), re.M)[1])
     seen.expect("the words of the desk", here, there)
     numbers = {int(number) for number in re.findall(r"^\| (\d+) [A-Z]", text, re.M)}
     seen.expect("each refusal that a server answers has words", {int(it[0]) for it in here}, {it for it in numbers if it < 40} | {90, 91})
@@ -413,7 +415,7 @@ def try_first_hour(seen, visitor):
         person.press("Enter flown times")
         for name, text in (("RB2 out", "0330"), ("RB2 in", "11 0515"), ("Release", "+4:30")):
             person.fill(name, text)
-        seen.expect("told before it is sent", person.sees("FDP 12:15 · flight 3:30. It would be recorded for good that limits are exceeded:"))
+        seen.expect("told before it is sent", person.sees("FDP 12:15 · flight 3:30. These exceedances would stay on record for good:"))
         seen.expect("whose limit", person.sees("Ada Ray (C1): Flight duty period (Table B), 117.13(a)"))
         person.press("Record flown times")
         seen.expect("told what is on record", person.sees("On record: C1 exceeds 117.13(a)", "#told"))
@@ -453,13 +455,13 @@ def try_first_month(seen, visitor):
         person.press("Enter flown times")
         for name, text in (("RB4 out", "2315"), ("RB4 in", "0100"), ("Release", "0130")):
             person.fill(name, text)
-        seen.expect("an exceedance, told before", person.sees("recorded for good"))
+        seen.expect("an exceedance, told before", person.sees("would stay on record for good"))
         person.press("Record flown times")
         write_pairing(person, "B104", ("2025-06-17 16:00", "18 0630"), (("RB7", "DEN", "1630", "BOS", "2030"), ("RB8", "BOS", "18 0129", "DEN", "0559")))
         seen.expect("by the clock of HOME", person.sees("the flight duty period of B104/1 is 13:59, and may be at most 13:00"))
         person.press("Assign Lee Roy")
         person.go("member/C9")
-        seen.expect("the roster of C9", person.sees("Tue 17 Jun B104/1 planned 16:00 – 06:30 +1 13:59 8:30", "main"))
+        seen.expect("the roster of C9", person.sees("Tue 17 Jun B104/1 planned\nDEN–BOS–DEN\n16:00 – 06:30 +1 13:59 8:30", "main"))
         person.go("member/C2")
         person.press("Record flying for another airline")
         form = "details:nth-of-type(2)"
@@ -468,6 +470,7 @@ def try_first_month(seen, visitor):
         person.press("One more segment", form)
         person.fill("Out 2", "2100", form)
         person.fill("In 2", "0030", form)
+        seen.expect("within all limits", person.sees("FDP 9:30 · flight 6:30. Within all limits.", form))
         person.press("Record", f"{form} form > div:last-child")
         seen.expect("recorded", person.sees("Flying X2 of Bo Lind (C2) for another airline is recorded."))
         write_pairing(person, "B105", ("2025-06-16 10:00", "1900"), (("RB9", "BOS", "1100", "IAD", "1245"), ("RB10", "IAD", "1645", "BOS", "1830")))
@@ -476,6 +479,7 @@ def try_first_month(seen, visitor):
         person.press("Correct its times")
         for name, text in (("Out 2", "2030"), ("In 2", "2300"), ("Release", "2330")):
             person.fill(name, text, "#panel")
+        seen.expect("judged", person.sees("FDP 8:00 · flight 5:30. Within all limits.", "#panel"))
         person.press("Record", "#panel form > div:last-child")
         seen.expect("corrected", person.sees("Sun 15 Jun 15:00 – Sun 15 Jun 23:30 · FDP 8:00 · flight 5:30", "#panel"))
         person.go("pairing/B105")
@@ -510,6 +514,198 @@ def write_pairing(person, pairing, edges, segments):
     person.calm()
 
 
+LATE = "fly B101 1 10: 17:00 | 18:00-19:45, +1 03:30-+1 05:15 | +1 05:45\n"
+OUTSIDE = "details:nth-of-type(2)"  # on a member's page
+
+
+def try_foretold(seen, visitor):
+    """Flying for another airline is judged before it is sent; a ground duty that is refused says what is in its way, or by how much."""
+    book = seen.book(OFFICE + "assign B103 C1\n")
+    with at_desk(seen, visitor, book, ("409 (Conflict)", "422 (Unprocessable")) as person:
+        person.open("member/C1")
+        person.press("Record flying for another airline")
+        seen.expect("no times yet", person.sees("A time is missing, or isn’t read.", OUTSIDE))
+        for name, text in (("Report", "2025-06-11 07:00"), ("Out 1", "0800"), ("In 1", "1000"), ("Release", "11")):
+            person.fill(name, text, OUTSIDE)
+        seen.expect("an example of a time", person.sees("not a time, such as 11:05, +35 or 11 01:05", OUTSIDE))
+        person.fill("Release", "11 1100", OUTSIDE)
+        words = "FDP 3:00 · flight 2:00. These exceedances would stay on record for good:\nAda Ray (C1): Rest before a report, 117.25(e)"
+        seen.expect("foretold", person.sees(words, OUTSIDE))
+        person.fill("Id", "x 1", OUTSIDE)
+        seen.expect("an id that would be refused", person.sees("It is about Id “x 1”.", OUTSIDE))
+        seen.expect("it can't be sent", person.js("return document.querySelector(arguments[0]).disabled", f"{OUTSIDE} button.main"))
+        person.fill("Id", "X1", OUTSIDE)
+        seen.expect("foretold again", person.sees(words, OUTSIDE))
+        seen.expect("nothing is sent yet", person.relay.commands, [])
+        person.press("Record", f"{OUTSIDE} form > div:last-child")
+        seen.expect("recorded", person.sees("On record: C1 exceeds 117.25(e), Rest before a report.", "#told"))
+        person.press("Add a ground duty")
+        for begin, end, words in (
+            ("2025-06-10 1800", "1900", "The member has another duty at that time.\nAda Ray (C1) has B101/1, Tue 10 Jun 17:00 to Wed 11 Jun 01:15, UTC."),
+            ("2025-06-11 0800", "0900", "Ada Ray (C1) flies for another airline (X1), Wed 11 Jun 07:00 to Wed 11 Jun 11:00, UTC."),
+            ("2025-06-12 0600", "0900", "It would break a limit.\nAda Ray (C1):\nthe rest before B103/1 is 5:00, and must be at least 10:00 (117.25(e))"),
+        ):
+            for name, text in (("Task", "Medical"), ("Begin", begin), ("End", end), ("Id", "G1")):
+                person.fill(name, text, "details")
+            person.press("Add ground duty")
+            seen.expect(begin, person.sees(words, "#told"))
+        seen.expect("it isn't told as if it were so", person.text("#told").count("Ada Ray (C1) was not given Medical (G1):"), 3)
+    seen.expect("the exceedances", [it.split(" ", 2)[2] for it in book.exceedances()], ["C1 117.25(e) X1 0"])
+    seen.expect("no ground duty", book.rows("SELECT id FROM ground"), [])
+
+
+def try_corrected(seen, visitor):
+    """A correction of flown times warns only of what isn't on record yet."""
+    book = seen.book(OFFICE + "assign B103 F1\n" + LATE)
+    with at_desk(seen, visitor, book) as person:
+        person.open("pairing/B101")
+        person.press("Correct flown times")
+        seen.expect("as it was opened", person.sees("These times are in the book.", "form"))
+        seen.expect("no warning", "for good" in person.text("form"), False)
+        person.fill("RB2 in", "+4:40")
+        seen.expect("no new one", person.sees("FDP 12:25 · flight 3:40. It exceeds only what is on record already.", "form"))
+        person.fill("Release", "12 0500")
+        seen.expect("a new one", person.sees("These exceedances would stay on record for good:\nZoë Roy (F1): Rest before a report, 117.25(e)", "form"))
+        seen.expect("and no other", person.text("form").count("117."), 1)
+    seen.expect("the exceedances", [it.split(" ", 2)[2] for it in book.exceedances()], ["C1 117.13(a) B101 1", "F1 117.13(a) B101 1"])
+
+
+def try_schedule(seen, visitor):
+    """A schedule that is refused: its record, pairing and field are named, and the row is marked; what is no schedule says what one is."""
+    book, june = seen.book(OFFICE), re.sub("B10([23])", r"Q10\1", JUNE.read_text())
+    wanted = {
+        "flight “RB 4” isn’t one such as RB1": ("RB4", "RB 4"),
+        "A segment doesn’t depart from where the one before arrived. Period 1": ("RB4,IAD", "RB4,DCA"),
+        "The times are out of order. Period 1": ("2025-06-11T19:30Z", "2025-06-11T18:30Z"),
+    }
+    with at_desk(seen, visitor, book, ("422 (Unprocessable",)) as person:
+        person.open("import")
+        person.press("or paste it")
+        for why, (old, new) in wanted.items():
+            text = june.replace(old, new)
+            number = 5 if "RB 4" in new else 4  # (of the file: B101 isn't sent; the pairing's first, if no text of it is wrong)
+            person.fill("The schedule as text", text)
+            person.press("Import 2 pairings")
+            seen.expect(why, person.sees(f"Nothing was imported.\n✕\nRecord {number} (Q102): {why}.\nThe schedule can’t be read.", "#told"))
+            seen.expect("its row", person.text("tr.wrong").split()[0], "Q102")
+            seen.expect("why, in the row", f"✗ Record {number} (Q102): {why}." in person.text("tr.wrong"))
+        person.fill("The schedule as text", june.replace("Q103,2", "Q103,3"))
+        person.press("Import 2 pairings")
+        seen.expect("out of its place", person.sees("Record 7 (Q103): its period, report or release doesn’t go with those of the records around it.", "#told"))
+        person.fill("The schedule as text", june.replace("2025-06-11T11:45Z", "6/11/2025 11:45"))
+        seen.expect("a time", person.sees("1 record can’t be read\nRecord 4 (Q102): out “6/11/2025 11:45” isn’t one such as 2025-06-10T12:00Z."))
+        more = "Its fields have other signs between them than commas: save it as comma separated values. "
+        for text, more in ((june.replace(",", ";"), more), (june.partition("\n")[2], "")):
+            person.fill("The schedule as text", text)
+            words = f"This is no schedule. {more}Its first line must be\npairing,period,report,release,flight,from,out,to,in\nWrite"
+            seen.expect("what a schedule is", person.sees(words))
+        person.fill("The schedule as text", june)
+        person.press("Import 2 pairings")
+        seen.expect("imported", person.wait(lambda: person.text().count("✓ in the book")), 2)
+    seen.expect("the pairings", [it.split()[0] for it in book.seats()], ["B101", "B102", "B103", "Q102", "Q103"])
+
+
+def try_names(seen, visitor):
+    """What is refused is named as on the screen, and told as what isn't so; a base's zone is chosen by its place."""
+    book = seen.book(OFFICE)
+    with at_desk(seen, visitor, book, ("409 (Conflict)", "422 (Unprocessable")) as person:
+        person.open("members")
+        person.fill("Id", "C 3", "form")
+        person.fill("Name", "Max Weil", "form")
+        person.press("Add member")
+        seen.expect("an id", person.sees("Max Weil (C 3) was not added:\n✕\nA text has a sign that it may not have, or it is empty or too long. It is about Id “C 3”.", "#told"))
+        base = "form:nth-of-type(2)"
+        person.fill("Id", "BER", base)
+        person.fill("Zone", "another", base)
+        person.fill("POSIX rule", "Berlin", base)
+        seen.expect("no rule", person.sees("not a rule yet", base))
+        person.fill("POSIX rule", "CET-1CEST,M3.5.0,M10.5.0/3", base)
+        seen.expect("a rule", person.sees("Check it: at 17:00 UTC a clock there shows 18:00 on 15 January and 19:00 on 15 July.", base))
+        person.fill("Zone", "Alaska", base)
+        seen.expect("by its place", person.sees("Check it: at 17:00 UTC a clock there shows 08:00 on 15 January and 09:00 on 15 July.", base))
+        person.fill("Id", "ANC", base)
+        person.press("Add base")
+        seen.expect("a base", person.sees("The base ANC is there.", "#told"))
+        person.press("Open", "nav")
+        person.press("Write one pairing by hand")
+        row = "fieldset > .stack > .stack > .fields"
+        for name, text in (("Pairing", "b9"), ("Report", "2025-06-20 0800"), ("Release", "11:30")):
+            person.fill(name, text, "form")
+        for name, text in (("Flight", "R-1"), ("From", "BOS"), ("Out", "0900"), ("To", "IAD"), ("In", "1100")):
+            person.fill(name, text, row)
+        person.press("Add pairing")
+        seen.expect("a flight", person.sees("Pairing B9 was not added:", "#told") and person.sees("It is about Flight “R-1”.", "#told"))
+        person.fill("Flight", "R1", row)
+        person.fill("Release", "1030", "form")
+        person.press("Add pairing")
+        seen.expect("times", person.sees("The times are out of order. Period 1.\nReport, Out and In of each segment, and Release follow one another", "#told"))
+        person.fill("Release", "1130", "form")
+        person.press("Add pairing")
+        person.sees("Who may fly as captain?")
+        person.press("Assign Bo Lind")
+        person.press("Release Bo Lind")
+        person.js("document.activeElement.blur()")
+        person.type("?")
+        seen.expect("what was sent", person.sees("Max Weil (C 3) was not added: refused", "dialog") and "Bo Lind (C2) flies B9: accepted" in person.text("dialog"))
+    seen.expect("the bases", book.bases(), ["ANC AKST9AKDT,M3.2.0,M11.1.0", "DEN MST7MDT,M3.2.0,M11.1.0", "HOME EST5EDT,M3.2.0,M11.1.0"])
+    seen.expect("the pairing", "B9 - -" in book.seats())
+
+
+def try_phone(seen, visitor):
+    """A captain's phone on 25 June: today comes first, by the clock of the captain's base."""
+    plans = "".join(f"plan P{day} {day}: 16:00 | 17:00-19:00 | 20:00\nassign P{day} C9\n" for day in (3, 8, 13, 18, 21, 25, 28))
+    book = seen.book(OFFICE + plans)
+    now = "const real = Date.now, off = Date.parse('2025-06-25T12:00Z') - real(); Date.now = () => real() + off;"
+    added = visitor.execute_cdp_cmd("Page.addScriptToEvaluateOnNewDocument", {"source": now})
+    try:
+        with at_desk(seen, visitor, book) as person:
+            person.size(NARROW)
+            person.open("member/C9")
+            top = "return document.querySelector('.coming').getBoundingClientRect().top"
+            seen.expect("today's duty is seen first", person.wait(lambda: 0 < person.js(top) < 100) and "P25/1" in person.text(".coming"))
+            seen.expect("its route", "BOS–IAD" in person.text(".coming"))
+            person.js("scrollTo(0, 0)")
+            person.press("This is me")
+            seen.expect("by the clock of the base", person.sees("10:00 – 14:00", ".coming"))
+            seen.expect("which the head says", person.text("#clock option:checked"), "DEN time")
+            person.go("board/2025-06-01/month")
+            edge = "document.querySelector('{}').getBoundingClientRect()"
+            left = f"return {edge.format('.dayname.today')}.left - {edge.format('.days > div')}.right"
+            seen.expect("the board begins with today", person.wait(lambda: abs(person.js(left)) < 90), True)
+            seen.expect("it is scrolled", person.js("return document.getElementById('grid').scrollLeft > 500"))
+            seen.expect("the legend", all(words in person.text(".legend") for words in ("one seat free", "✓ may fly")))
+    finally:
+        visitor.execute_cdp_cmd("Page.removeScriptToEvaluateOnNewDocument", added)
+
+
+RESTS = """
+    const [duties, sections] = arguments, all = duties.sort((a, b) => a.begin - b.begin);
+    return sections.map(([section, limit]) => nearestRest({ section, limit }, all, { begin: 0, end: 1e9 })?.minutes ?? null);
+"""
+
+
+def try_rests(seen, visitor):
+    """Where the page reckons rests itself, it comes to what the report says."""
+    script = "".join(part(name) for name in ("instants", "kept", "zones", "clock", "sections")) + RESTS
+    visitor.get("about:blank")
+    for seed in range(6):
+        rng, lines = random.Random(seed), ["hire C1 captain: Ada Ray"]
+        for day in sorted(rng.sample(range(1, 25), 14)):
+            hour = rng.randrange(0, 12)
+            lines += [f"plan P{day} {day}: {hour:02}:00 | {hour + 1:02}:00-{hour + 2:02}:30 | {hour + 3:02}:00", f"assign P{day} C1"] if rng.random() < 0.6 else [f"train G{day} {day}: {hour:02}:00-{hour + rng.randrange(2, 12):02}:00"]
+        book = Book.made(seen.room)
+        for line in lines:
+            book.settle(line)
+        limits = json.loads(rosterbook("limits", book.file, "C1", "--json").out)["limits"][-2:]
+        duties = [{"begin": minutes(it["begin"]), "end": minutes(it["end"]), "fdp": it.get("fdp")} for it in json.loads(rosterbook("roster", book.file, "C1", "--json").out)["duties"]]
+        got = visitor.execute_script(script, duties, [[it["section"], it["limit"]] for it in limits])
+        seen.expect(f"the rests of roster {seed}", got, [it["minutes"] for it in limits])
+
+
+def minutes(text):
+    return int(datetime.fromisoformat(text.replace("Z", "+00:00")).timestamp() // 60)
+
+
 def try_drag(seen, visitor):
     """A pairing is dragged to a member who may not fly it, and to one who may."""
     book = seen.book(OFFICE)
@@ -519,7 +715,7 @@ def try_drag(seen, visitor):
         words = "the rest before B102/1 is 9:30, and must be at least 10:00"
         seen.expect("why not, in the air", person.sees(f"B102 to Ada Ray: {words}", ".drag"))
         person.drop()
-        seen.expect("refused", person.sees("Refused: Ada Ray (C1) flies B102.", "#told"))
+        seen.expect("refused", person.sees("Ada Ray (C1) was not assigned to B102:", "#told"))
         seen.expect("the reason", person.sees(f"It would break a limit.\nAda Ray (C1):\n{words} (117.25(e))\nTake another member, or other times.", "#told"))
         person.drag("B102", "C2")
         seen.expect("allowed, in the air", person.sees("B102 to Bo Lind: may fly", ".drag"))
@@ -842,10 +1038,12 @@ def try_inspector(seen, visitor):
         seen.expect("all", person.sees("3 of 3 on record"))
         person.fill("sections", "117.25(e)")
         seen.expect("one of rest", person.sees("1 of 3 on record"))
-        seen.expect("whose, of what", person.js(first)[:78], "Zoë Roy F1 117.25(e) Rest before a report X1 (other airline) Wed 11 Jun 2025 13:00"[:78])
+        wanted = "Zoë Roy F1 117.25(e) Rest before a report 2:45 short of 10:00 X1 (other airline) Wed 11 Jun 2025 13:00 FDP 4:00, flight 3:00"
+        seen.expect("whose, of what, by how much", person.wait(lambda: person.js(first).startswith(wanted)))
         person.fill("sections", "all")
         person.fill("members", "C1")
-        seen.expect("one of C1", person.sees("1 of 3 on record") and "B101/1 Tue 10 Jun 2025 17:00 FDP 12:15, flight 3:30" in person.js(first))
+        wanted = "(Table B) 0:15 over 12:00 B101/1 Tue 10 Jun 2025 17:00 FDP 12:15, flight 3:30"
+        seen.expect("one of C1", person.sees("1 of 3 on record") and person.wait(lambda: wanted in person.js(first)))
         person.fill("members", "all")
         person.press("Member", "thead")
         seen.expect("sorted by member", person.js(first)[:7], "Ada Ray")
@@ -861,12 +1059,14 @@ def try_paper(seen, visitor):
             person.open(where)
             visitor.execute_cdp_cmd("Emulation.setEmulatedMedia", {"media": "print"})
             seen.expect(f"{where} on paper", person.sees(words))
+            seen.expect("no link to a list on it", "List" in person.text("#lanes"), False)
             seen.expect(f"no controls on it: {where}", person.js("return [...document.querySelectorAll('nav, .tools, select, main > .line button')].filter(it => it.checkVisibility()).length"), 0)
             visitor.execute_cdp_cmd("Emulation.setEmulatedMedia", {"media": ""})
 
 
 IN_BROWSER = {
-    "first_hour": try_first_hour, "first_month": try_first_month, "drag": try_drag, "seats": try_seats, "two_desks": try_two_desks,
+    "first_hour": try_first_hour, "first_month": try_first_month, "foretold": try_foretold, "corrected": try_corrected, "schedule": try_schedule,
+    "names": try_names, "phone": try_phone, "rests": try_rests, "drag": try_drag, "seats": try_seats, "two_desks": try_two_desks,
     "lost_answer": try_lost_answer, "numbers": try_numbers, "room": try_room, "markup": try_markup, "clocks": try_clocks, "zones": try_zones, "keys": try_keys, "screens": try_screens,
     "inspector": try_inspector, "paper": try_paper,
 }  # fmt: skip

@@ -1,9 +1,11 @@
 // A command as a person gives it: sent, its answer told in words, and what it changed read again.
 
 import { h } from './dom.js';
-import { pairingOf, readAgain } from './known.js';
+import { nameOf, pairingOf, readAgain } from './known.js';
 import { tell } from './messages.js';
-import { explained, limitName, wrongOf } from './refusals.js';
+import { phrases } from './phrases.js';
+import { explained, wrongOf } from './refusals.js';
+import { limitName } from './sections.js';
 import { send, sendLeft } from './sending.js';
 
 // Whose rosters and which pairings a command may have changed.
@@ -15,42 +17,37 @@ function touched(command, answer) {
 }
 const recorded = answer => answer.exceedances?.length > 0 &&
   h('p.bad', 'On record: ', answer.exceedances.map(it => `${it.crew} exceeds ${it.section}, ${limitName(it.section)}`).join('; '), '.');
+const tellRefused = async (answer, command) => tell(false, `${phrases(command).refused}:`, await explained(answer, command));
 
-// `words` say what is so once it is done; `undo`, if there is an opposite, is `{ command, words }`.
-export async function act(command, words, undo) {
-  const answer = await send(command, words);
-  if (answer.result === 'accepted') {
-    const back = undo && h('p', h('button', { onclick: e => { e.target.closest('.told').remove(); act(undo.command, undo.words); } }, 'Undo'));
-    tell(true, words + '.', recorded(answer), back);
-  } else if (answer.result !== 'forgotten') tell(false, `Refused: ${words}.`, await explained(answer, command));
+// `undo`, if there is an opposite, is a command too. It comes to whether it was done.
+export async function act(command, undo) {
+  const answer = await send(command);
+  if (isDone(answer)) {
+    const back = undo && h('p', h('button', { onclick: e => { e.target.closest('.told').remove(); act(undo); } }, 'Undo'));
+    tell(true, phrases(command).words + '.', recorded(answer), back);
+  } else if (answer.result !== 'forgotten') await tellRefused(answer, command);
   await readAgain({ ...touched(command, answer), isGentle: !isDone(answer) });
-  return answer;
+  return isDone(answer);
 }
-export const isDone = answer => answer.result === 'accepted';
+const isDone = answer => answer.result === 'accepted';
 
 // Assigning and releasing are each other's opposite.
-const flies = (crew, name, pairing) => `${name} (${crew}) flies ${pairing}`;
-const doesNot = (crew, name, pairing) => `${name} (${crew}) doesn’t fly ${pairing}`;
-export const assign = (crew, name, pairing) => act({ do: 'assign', pairing, crew }, flies(crew, name, pairing),
-  { command: { do: 'release', pairing, crew }, words: doesNot(crew, name, pairing) });
-export const release = (crew, name, pairing) => act({ do: 'release', pairing, crew }, doesNot(crew, name, pairing),
-  { command: { do: 'assign', pairing, crew }, words: flies(crew, name, pairing) });
+export const assign = (crew, pairing) => act({ do: 'assign', pairing, crew }, { do: 'release', pairing, crew });
+export const release = (crew, pairing) => act({ do: 'release', pairing, crew }, { do: 'assign', pairing, crew });
 
 // Gives the seat of one member to another, in two steps; if the second is refused, the first is undone.
 export async function replace(holder, crew, pairing) {
-  const changed = { crews: [holder.crew, crew.crew], ids: [pairing], isGentle: false };
-  const first = await send({ do: 'release', pairing, crew: holder.crew }, doesNot(holder.crew, holder.name, pairing));
-  if (!isDone(first)) {
-    tell(false, 'Nothing was changed.', await explained(first));
+  const changed = { crews: [holder, crew], ids: [pairing], isGentle: false }, command = { do: 'assign', pairing, crew };
+  const first = { do: 'release', pairing, crew: holder }, answer = await send(first);
+  if (!isDone(answer)) {
+    await tellRefused(answer, first);
     return readAgain(changed);
   }
-  const command = { do: 'assign', pairing, crew: crew.crew }, words = flies(crew.crew, crew.name, pairing);
-  const second = await send(command, words);
-  if (isDone(second)) tell(true, `${words}, in place of ${holder.name} (${holder.crew}).`);
+  const second = await send(command), { words, refused } = phrases(command), name = `${nameOf(holder)} (${holder})`;
+  if (isDone(second)) tell(true, `${words}, in place of ${name}.`);
   else {
-    const back = await send({ do: 'assign', pairing, crew: holder.crew }, flies(holder.crew, holder.name, pairing));
-    tell(false, `Refused: ${words}.`, await explained(second, command),
-      h('p', isDone(back) ? `${holder.name} has the seat as before.` : 'The seat is free now.'));
+    const back = await send({ do: 'assign', pairing, crew: holder });
+    tell(false, `${refused}:`, await explained(second, command), h('p', isDone(back) ? `${name} has the seat as before.` : 'The seat is free now.'));
   }
   return readAgain(changed);
 }
@@ -59,9 +56,9 @@ export async function replace(holder, crew, pairing) {
 export function sendAgain() {
   sendLeft((it, answer) => {
     if (answer.result === 'forgotten') return;
-    const isGood = answer.parts || isDone(answer), result = answer.parts ? 'answered' : answer.result;
-    tell(isGood, `${it.words}: ${result}.`, h('p', `It was sent again under its number ${it.number}, so it was done once.`),
-      !isGood && h('p', wrongOf(answer)));
+    const isGood = answer.parts || isDone(answer);
+    tell(isGood, isGood ? `${it.words}.` : `${it.refused ?? it.words}:`, !isGood && h('p', wrongOf(answer)),
+      h('p', `It was sent again under its number ${it.number}${isGood ? ', so it was done once' : ''}.`));
     readAgain();
   });
 }

@@ -10,7 +10,8 @@ import { drawAll, drawRow, filterRows, memberRow, openLanes, readRosters } from 
 import { ZOOMS, chooseView, goTo, place, step, view, zoomTo } from './view.js';
 
 const QUARTERS = [360, 720, 1080];  // minutes of a day, where a week has lines
-const LEGEND = [['plan', 'planned'], ['flown', 'flown'], ['ground', 'ground duty'], ['outside', 'for another airline'], ['open', 'free seat']];
+const LEGEND = [['plan', 'planned'], ['flown', 'flown'], ['ground', 'ground duty'], ['outside', 'for another airline'], ['open', 'free seats'],
+  ['open half', 'one seat free']];
 
 const column = m => ({ left: `${place(m)}%`, width: `${place(addDays(m, 1)) - place(m)}%` });
 const isWeekend = m => weekday(m) % 6 === 0;
@@ -31,17 +32,17 @@ function titleOf() {
 
 // One of several, as radio buttons side by side.
 function choice(name, options, value, choose) {
-  return h('span.choice', { role: 'radiogroup', 'aria-label': name },
+  return h('span.choice', { role: 'radiogroup', label: name },
     options.map(([key, text]) => h('label', h('input', { type: 'radio', name, value: key, checked: key === value, onchange: () => choose(key) }),
       h('span', text))));
 }
 function controls(title) {
-  const filter = h('input', { type: 'search', placeholder: 'Name, id or base', 'aria-label': 'Filter members', value: view.word,
+  const filter = h('input', { type: 'search', placeholder: 'Name, id or base', label: 'Filter members', value: view.word,
     oninput: e => { view.word = e.target.value; filterRows(); } });
   return h('div.line.noprint', h('h1', { tabindex: -1, class: 'month' }, title),
-    h('span.line', h('button', { 'aria-label': 'Earlier', title: 'Earlier (Page Up)', 'data-key': 'earlier', onclick: () => step(-1) }, '‹'),
-      h('button', { 'data-key': 'today', onclick: () => goTo(now()) }, 'Today'),
-      h('button', { 'aria-label': 'Later', title: 'Later (Page Down)', 'data-key': 'later', onclick: () => step(1) }, '›')),
+    h('span.line', h('button', { label: 'Earlier', title: 'Earlier (Page Up)', key: 'earlier', onclick: () => step(-1) }, '‹'),
+      h('button', { key: 'today', onclick: () => goTo(now()) }, 'Today'),
+      h('button', { label: 'Later', title: 'Later (Page Down)', key: 'later', onclick: () => step(1) }, '›')),
     choice('Zoom', Object.entries(ZOOMS).map(([key, [name]]) => [key, name]), view.zoom, zoomTo),
     choice('Seats', [['', 'All'], ['captain', 'Captains'], ['first officer', 'First officers']], view.seat,
       seat => { view.seat = seat; filterRows(); }), filter);
@@ -69,16 +70,19 @@ function watch(grid, track, stop) {
   stop.addEventListener('abort', () => { near.disconnect(); sized.disconnect(); });
 }
 
+// How far today is from the first day shown, in pixels.
+export const todayAt = () => now() > view.from && now() < view.to ? place(dayOf(now())) / 100 * view.width : 0;
+
 export function boardScreen([day, zoom], stop) {
   chooseView(day, zoom);
-  const title = titleOf(), days = h('div.track', { role: 'columnheader', 'aria-label': title }, view.days.map(dayHead));
+  const title = titleOf(), days = h('div.track', { role: 'columnheader', label: title }, view.days.map(dayHead));
   const head = h('div.days', { role: 'row' }, h('div', { role: 'columnheader', class: 'small soft' }, h('span', { id: 'shown' }), h('br'),
     h('div.line.end', clock.base === 'UTC' ? 'UTC' : `${clock.base} time`, h('span', 'flight'))), days);
   const sheet = h('div.sheet', { style: { '--days': view.days.length } }, head, columns(), known.members.map(memberRow),
     !known.members.length && h('p.empty', 'The book has no members yet. ', link('members', 'Add the first one'), ', then ',
       link('import', 'import a schedule, or write a pairing by hand'), '.'));
   const grid = h('div', { class: `gantt ${view.zoom}`, role: 'grid', id: 'grid',
-    'aria-label': `Duties, ${title}, ${clockName()}. Arrow keys move from duty to duty.`, onkeydown: boardKeys }, sheet);
+    label: `Duties, ${title}, ${clockName()}. Arrow keys move from duty to duty.`, onkeydown: boardKeys }, sheet);
   queueMicrotask(() => {  // (once it has its place in the page)
     filterRows();
     watch(grid, days, stop);
@@ -87,5 +91,6 @@ export function boardScreen([day, zoom], stop) {
     setTabStop();
   });
   return [controls(title), h('p.printonly', `Roster, ${title}, ${clockName()}`), grid,
-    h('div.legend', LEGEND.map(([kind, text]) => h('span', { class: kind }, h('i'), text)), h('span.bad', '▲ exceeds a limit'))];
+    h('div.legend', LEGEND.map(([kind, text]) => h('span', { class: kind }, h('i'), text)), h('span.bad', '▲ exceeds a limit'),
+      h('span', h('b.good', '✓ '), 'may fly the pairing that is chosen'))];
 }

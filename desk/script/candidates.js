@@ -2,23 +2,25 @@
 
 import { assign, replace } from './acting.js';
 import { unlessLost } from './asking.js';
-import { h } from './dom.js';
+import { fill, h } from './dom.js';
 import { hm, plural } from './instants.js';
-import { clashOf, known, memberOf } from './known.js';
+import { clashOf, detailOf, known, memberOf } from './known.js';
 import { setMark } from './marks.js';
-import { link } from './pieces.js';
+import { dutyText, link } from './pieces.js';
 import { reading } from './reading.js';
-import { limitName, limitText, wrongOf } from './refusals.js';
+import { wrongOf } from './refusals.js';
+import { limitName, limitText, restText } from './sections.js';
 import { check } from './sending.js';
 
 const FILTERED = 8;  // from so many members on there is a filter
 
-const overlap = clash => ({ ok: false, tag: 'overlap', text: clash ? `has ${clash.name} at that time` : 'has another duty at that time' });
+const clashWith = async (crew, pairing, signal) => clashOf(crew, (await detailOf(pairing, signal)).periods, null, signal);
+const overlap = clash => ({ ok: false, tag: 'overlap', text: `${clash ? dutyText(clash) : 'has another duty'} then` });
 
 // How near a member would be to the limits.
 function nearness(limits) {
   const of = section => limits.find(it => it.section === section).minutes, rest = of('117.25(e)');
-  const text = `28 d ${hm(of('117.23(b)(1)') ?? 0)} of 100 · 7 d ${hm(of('117.23(c)(1)') ?? 0)} of 60${rest == null ? '' : ` · rest ${hm(rest)}`}`;
+  const text = `28 d ${hm(of('117.23(b)(1)') ?? 0)} of 100 · 7 d ${hm(of('117.23(c)(1)') ?? 0)} of 60${rest == null ? '' : ` · rest ${restText(rest)}`}`;
   return { ok: true, month: of('117.23(b)(1)') ?? 0, text };
 }
 const beyond = limits => ({ ok: false, tag: limits.map(it => it.section).join(' '), text: limits.map(limitText).join('; ') });
@@ -27,7 +29,7 @@ const judged = limits => limits.some(it => it.exceeds) ? beyond(limits.filter(it
 // The verdict on a member: `ok`, a tag and a text; `month`, the flight time in 28 days, if it is allowed.
 async function verdictFree(crew, pairing, signal) {
   const answer = await check({ do: 'assign', pairing, crew }, signal);
-  if (answer.refusal === 11) return overlap(await clashOf(crew, pairing, signal));
+  if (answer.refusal === 11) return overlap(await clashWith(crew, pairing, signal));
   if (answer.result !== 'accepted' && answer.refusal !== 12) return { ok: false, tag: 'refused', text: wrongOf(answer) };
   const found = judged(await reading.limits(crew, pairing, 0, signal));
   if (answer.result === 'accepted' || !found.ok) return found;
@@ -35,7 +37,7 @@ async function verdictFree(crew, pairing, signal) {
 }
 // While somebody has the seat the book would only say that it is taken: so overlaps and limits are looked at instead.
 async function verdictInPlace(crew, pairing, signal) {
-  const clash = await clashOf(crew, pairing, signal);
+  const clash = await clashWith(crew, pairing, signal);
   return clash ? overlap(clash) : judged(await reading.limits(crew, pairing, 0, signal));
 }
 
@@ -44,29 +46,29 @@ export function candidates(pairing, seat, signal, holder) {
   const people = known.members.filter(it => it.seat === seat && it.crew !== holder), found = new Map();
   const yes = h('ul.plain'), no = h('ul.plain'), summary = h('summary');
   const others = h('details', { open: true }, summary, no), progress = h('span.soft.small.num', { role: 'status' });
-  const filter = h('input', { type: 'search', placeholder: 'Filter by name or id', 'aria-label': `Filter the ${seat}s`, oninput: draw });
+  const filter = h('input', { type: 'search', placeholder: 'Filter by name or id', label: `Filter the ${seat}s`, oninput: draw });
   const title = holder ? `Who may replace ${memberOf(holder)?.name ?? holder}?` : `Who may fly as ${seat}?`;
 
   function draw() {
     const word = filter.value.toLowerCase(), all = [...found.values()].filter(it => `${it.crew} ${it.name}`.toLowerCase().includes(word));
     const allowed = all.filter(it => it.ok).sort((a, b) => a.month - b.month || (a.crew < b.crew ? -1 : 1)), refused = all.filter(it => !it.ok);
-    yes.replaceChildren(...allowed.map(row));
-    no.replaceChildren(...refused.map(row));
+    fill(yes, allowed.map(row));
+    fill(no, refused.map(row));
     others.hidden = !refused.length;
     summary.textContent = `${plural(refused.length, 'member')} may not`;
     progress.textContent = found.size < people.length ? `${found.size} of ${people.length} looked at` : `${allowed.length} of ${all.length} may`;
-    if (!people.length) yes.replaceChildren(h('li.soft', holder ? `The book has no other ${seat}.` : `The book has no ${seat} yet: add one under `,
+    if (!people.length) fill(yes, h('li.soft', holder ? `The book has no other ${seat}.` : `The book has no ${seat} yet: add one under `,
       !holder && link('members', 'Members')));
   }
   function row(it) {
     const press = e => {
       e.target.disabled = true;
-      (holder ? replace(memberOf(holder), it, pairing) : assign(it.crew, it.name, pairing)).finally(() => { e.target.disabled = false; });
+      (holder ? replace(holder, it.crew, pairing) : assign(it.crew, pairing)).finally(() => { e.target.disabled = false; });
     };
     const verb = holder ? 'Replace' : 'Assign', label = `${verb === 'Assign' ? 'Assign' : 'Replace by'} ${it.name}, ${it.crew}`;
     return h('li.candidate',
       h('span', link('member/' + it.crew, h('bdi', it.name)), h('span.soft.small', ` ${it.crew} · ${it.base}`)),
-      it.ok ? h('button.main', { 'data-key': `assign ${it.crew}`, 'aria-label': label, onclick: press }, verb) : h('span.tag.red', it.tag),
+      it.ok ? h('button.main', { key: `assign ${it.crew}`, label, onclick: press }, verb) : h('span.tag.red', it.tag),
       h('p', { class: it.ok ? 'small soft num' : 'small num' }, it.text));
   }
   async function look() {
@@ -80,5 +82,5 @@ export function candidates(pairing, seat, signal, holder) {
   }
   look().catch(unlessLost);
   draw();
-  return h('section.card', { 'aria-label': title }, h('div.line.end', h('h3', title), progress), people.length > FILTERED && filter, yes, others);
+  return h('section.card', { label: title }, h('div.line.end', h('h3', title), progress), people.length > FILTERED && filter, yes, others);
 }

@@ -56,7 +56,7 @@ function finish(isDropped) {
   Object.assign(drag, { words: null, row: null });
   swallowClick();
   if (address().panel?.[1] !== pairing) clearMarks();
-  if (isDropped && crew) assign(crew, memberOf(crew).name, pairing);
+  if (isDropped && crew) assign(crew, pairing);
 }
 
 export function startDrag(e, pairing) {

@@ -1,12 +1,13 @@
-// The exceedances on record, for an inspector: by member, section and month; sorted; printed with repeated headings.
+// The exceedances on record, for an inspector: by member, section and month, and by how much; sorted; printed with repeated headings.
 
 import { unlessLost } from './asking.js';
 import { clockName, dated, monthName, monthOf } from './clock.js';
-import { all, h } from './dom.js';
+import { all, fill, h } from './dom.js';
 import { hm, now } from './instants.js';
 import { known, nameOf, pairingOf, rosterOf } from './known.js';
 import { empty, memberLink, select } from './pieces.js';
-import { SECTIONS, limitName } from './refusals.js';
+import { reading } from './reading.js';
+import { SECTIONS, excess, isRest, limitName, meets, nearestRest } from './sections.js';
 import { enteredAt } from './sending.js';
 
 const chosen = { crew: '', section: '', month: '', order: 'number' };  // (it stays so from screen to screen)
@@ -25,15 +26,26 @@ function inOrder(list) {
 const isChosen = it => (!chosen.crew || it.crew === chosen.crew) && (!chosen.section || it.section === chosen.section) &&
   (!chosen.month || monthOf(beginOf(it)) === +chosen.month);
 
-function exceedanceRow(it) {
-  const duty = standing(it), entered = enteredAt(it.number);
-  const name = it.kind === 'pairing' ? h('a', { href: `#/exceedances+pairing/${it.pairing}` }, it.name)
+// By how much the limit is exceeded by the times now, if that can be told: a report has what is nearest of a pairing's periods, or of all
+// that the member has done.
+async function amountOf(it, stop) {
+  const of = list => list.find(one => one.section === it.section), limit = of(await reading.limits(it.crew, it.pairing, 2, stop));
+  if (it.pairing) return isRest(it.section) || !limit.duty || limit.duty === it.name ? excess(limit, it.name) : '';
+  const duties = await rosterOf(it.crew, 2, stop), duty = duties.find(other => other.key === it.key);
+  if (isRest(it.section)) return excess(nearestRest(limit, duties, duty), it.name);
+  return meets(limit, duty) ? excess(limit) : `limit ${hm(limit.limit)}`;
+}
+
+function exceedanceRow(it, amount) {
+  const duty = standing(it), entered = enteredAt(it.number), much = h('td.num', { column: 'By how much' });
+  const name = it.pairing ? h('a', { href: `#/exceedances+pairing/${it.pairing}` }, it.name)
     : h('span', h('a', { href: `#/exceedances+outside/${it.crew}/${it.id}` }, it.id), ' (other airline)');
-  const cell = (label, text) => h('td.num', { 'data-label': label }, text);
-  return h('tr', h('td', memberLink(it.crew)), h('td', { 'data-label': 'Limit' }, h('span', h('b', it.section), ` ${limitName(it.section)}`)),
-    h('td', { 'data-label': 'Duty' }, name),
-    cell('Report', duty && dated(duty.begin)), cell('As it stands now', duty && `FDP ${hm(duty.fdp)}, flight ${hm(duty.flight)}`),
-    cell('Request', h('span', it.number, entered && h('span.soft.small.below', `entered ${dated(entered)}`))));
+  const cell = (label, text) => h('td.num', { column: label }, text);
+  amount(it).then(text => fill(much, text)).catch(unlessLost);
+  return h('tr', h('td', memberLink(it.crew)), h('td', { column: 'Limit' }, h('span', h('b', it.section), ` ${limitName(it.section)}`)), much,
+    h('td', { column: 'Duty' }, name),
+    cell('Report', duty && dated(duty.begin)), cell('Times now', duty && `FDP ${hm(duty.fdp)}, flight ${hm(duty.flight)}`),
+    cell('Entry no.', h('span', it.number, entered && h('span.soft.small.below', `entered ${dated(entered)}`))));
 }
 
 // A head of the table by which its rows are sorted.
@@ -48,7 +60,7 @@ function sorter(order, text, draw) {
 }
 // A choice of which rows there are.
 function picker(key, options, label, draw) {
-  return select([['', `all ${label}`], ...options], chosen[key], { 'aria-label': label, onchange: e => { chosen[key] = e.target.value; draw(); } });
+  return select([['', `all ${label}`], ...options], chosen[key], { label, onchange: e => { chosen[key] = e.target.value; draw(); } });
 }
 function filters(draw) {
   const crews = [...new Set(known.exceedances.map(it => it.crew))].sort(), sections = SECTIONS.filter(s => known.exceedances.some(it => it.section === s));
@@ -59,25 +71,26 @@ function filters(draw) {
 function exceedanceTable(body, draw) {
   const head = text => h('th', { scope: 'col' }, text);
   return h('div.scroll.card.flat', h('table.cards', h('caption.sr', 'Exceedances on record'), h('thead', h('tr',
-    sorter('crew', 'Member', draw), sorter('section', 'Limit', draw), head('Duty'), sorter('begin', 'Report', draw), head('As it stands now'),
-    sorter('number', 'Request', draw))), body));
+    sorter('crew', 'Member', draw), sorter('section', 'Limit', draw), head('By how much'), head('Duty'), sorter('begin', 'Report', draw),
+    head('Times now'), sorter('number', 'Entry no.', draw))), body));
 }
 
 export function exceedancesScreen(_, stop) {
-  const body = h('tbody'), told = h('span.soft', { role: 'status' }), choices = h('span.line');
+  const body = h('tbody'), told = h('span.soft', { role: 'status' }), choices = h('span.line'), amounts = new Map();
+  const amount = it => amounts.get(it) ?? amounts.set(it, amountOf(it, stop)).get(it);
   function draw() {
     const list = inOrder(known.exceedances.filter(isChosen));
     told.textContent = `${list.length} of ${known.exceedances.length} on record · ${clockName()}`;
-    body.replaceChildren(...list.map(exceedanceRow));
+    fill(body, list.map(it => exceedanceRow(it, amount)));
   }
-  const drawAll = () => { choices.replaceChildren(...filters(draw)); draw(); };
+  const drawAll = () => { fill(choices, filters(draw)); draw(); };
   const others = new Set(known.exceedances.filter(it => it.kind === 'outside').map(it => it.crew));
   Promise.all([...others].map(crew => rosterOf(crew, 1, stop))).then(drawAll).catch(unlessLost);
   drawAll();
   return [
     h('div.line', h('h1', { tabindex: -1 }, 'Exceedances'), told, h('span.line.push.noprint', choices, h('button', { onclick: () => print() }, 'Print'))),
     h('p.soft.small', 'Limits of 14 CFR Part 117 that flown times, or flying for another airline, exceeded when they were entered. ',
-      'A record stays for good, also if the times are corrected later.'),
+      'A record stays for good, also if the times are corrected later; by how much is told of the times now.'),
     h('p.printonly', `Printed ${dated(now(), 'UTC')} UTC, from the roster book at ${location.host}`),
     known.exceedances.length ? exceedanceTable(body, draw) : empty('No exceedance is on record.'),
   ];

@@ -19,7 +19,7 @@ const KEYS = [
 ];
 
 export function help() {
-  const dialog = h('dialog', { 'aria-label': 'Keys', onclose: () => dialog.remove() }, h('h2', 'Keys'),
+  const dialog = h('dialog', { label: 'Keys', onclose: () => dialog.remove() }, h('h2', 'Keys'),
     h('dl.keys', KEYS.map(([key, text]) => [h('dt', h('kbd', key)), h('dd', text)])),
     h('h3', 'What this desk sent last'),
     h('ul.small', journal().slice(0, SENT).map(it => h('li', `${it.words}: ${it.result} `, h('span.soft.num', it.number)))),

@@ -18,7 +18,7 @@ let members = new Map(), pairings = new Map(), exceeded = new Map();
 export const memberOf = crew => members.get(crew);
 export const nameOf = crew => members.get(crew)?.name ?? '';
 export const pairingOf = id => pairings.get(id);
-export const exceededBy = duty => exceeded.get(`${duty.crew} ${duty.key}`);  // the sections, or undefined
+export const exceededBy = duty => exceeded.get(`${duty.crew} ${duty.key}`) ?? [];  // the sections
 
 const byKey = (list, key) => new Map(list.map(it => [it[key], it]));
 export async function readLists() {
@@ -27,8 +27,7 @@ export async function readLists() {
   [members, pairings, exceeded] = [byKey(people.members, 'crew'), byKey(plans, 'pairing'), new Map()];
   plans.sort((a, b) => a.begin - b.begin || (a.pairing < b.pairing ? -1 : 1));
   for (const { crew, key, section } of exceedances) {
-    const sections = exceeded.get(`${crew} ${key}`) ?? new Set();
-    exceeded.set(`${crew} ${key}`, sections.add(section));
+    exceeded.set(`${crew} ${key}`, [...new Set([...exceededBy({ crew, key }), section])]);
   }
   setZones(people.bases);
   known.recount();
@@ -43,10 +42,9 @@ export async function detailOf(id, signal) {
   return known.details.get(id);
 }
 
-// Which duty of a member is at the time of a pairing.
-export async function clashOf(crew, id, signal) {
-  const { periods } = await detailOf(id, signal), duties = await rosterOf(crew, 0, signal);
-  return duties.find(duty => duty.id !== id && periods.some(p => duty.begin < p.end && p.begin < duty.end));
+// Which duty of a member meets one of these, but for a pairing that is given away.
+export async function clashOf(crew, others, given, signal) {
+  return (await rosterOf(crew, 0, signal)).find(duty => duty.id !== given && others.some(it => duty.begin < it.end && it.begin < duty.end));
 }
 
 // Reads the lists again, and of these members and pairings what was read (of all, if none are named), and draws the page anew.

@@ -2,14 +2,14 @@
 
 import { beside, dutyPanel } from './address.js';
 import { unlessLost } from './asking.js';
-import { addMonths, bestMonth, clockName, date, monthName, span } from './clock.js';
-import { h } from './dom.js';
-import { hm, now, sum } from './instants.js';
-import { keep, kept } from './kept.js';
+import { addMonths, bestMonth, clockName, date, monthName, monthOf, span } from './clock.js';
+import { fill, h, isPhone } from './dom.js';
+import { DAY, hm, now, sum } from './instants.js';
+import { kept } from './kept.js';
 import { exceededBy, memberOf, rosterOf } from './known.js';
 import { limitsOf } from './limits.js';
 import { groundForm, outsideForm } from './otherduty.js';
-import { empty, heads, link, pending, tag } from './pieces.js';
+import { empty, heads, link, pending, routeOf, tag } from './pieces.js';
 import { inWords } from './refusals.js';
 
 const LONG_REST = 99 * 60;  // is no longer told
@@ -22,10 +22,10 @@ function kindTag(duty) {
 
 function dutyRow(duty, duties) {
   const before = Math.max(...duties.slice(0, duties.indexOf(duty)).map(it => it.end)), rest = duty.begin - before;
-  const sections = [...exceededBy(duty) ?? []], cell = (label, text) => h('td', { 'data-label': label, class: 'num' }, text);
-  return h('tr', { class: sections.length > 0 && 'bad' }, h('td.num', date(duty.begin)),
-    h('td', { 'data-label': kindName[duty.kind] }, h('span', h('a', { href: beside(dutyPanel(duty)) }, duty.kind === 'pairing' ? duty.name : duty.id),
-      ' ', kindTag(duty))),
+  const sections = exceededBy(duty), cell = (label, text) => h('td', { column: label, class: 'num' }, text);
+  return h('tr', { class: [sections.length > 0 && 'bad', duty.end > now() && 'coming'].filter(Boolean).join(' ') }, h('td.num', date(duty.begin)),
+    h('td', { column: kindName[duty.kind] }, h('span', h('a', { href: beside(dutyPanel(duty)) }, duty.kind === 'pairing' ? duty.name : duty.id),
+      ' ', kindTag(duty), duty.plan && h('span.soft.small.below', routeOf([duty.plan])))),
     cell(duty.kind === 'ground' ? 'From – to' : 'Report – release', span(duty)), cell('FDP', duty.fdp != null && hm(duty.fdp)),
     cell('Flight', duty.flight != null && hm(duty.flight)), cell('Rest before', rest < LONG_REST && hm(Math.max(0, rest))),
     h('td', sections.length > 0 && h('span.bad', `▲ exceeds ${sections.join(', ')}`)));
@@ -42,20 +42,20 @@ function rosterTable({ crew, name }, duties) {
   const box = h('div.stack');
   function draw() {
     const month = months.get(crew), list = duties.filter(it => it.begin >= month && it.begin < addMonths(month, 1));
-    const step = (n, text, label) => h('button', { 'aria-label': label, 'data-key': `month ${n}`,
+    const step = (n, text, label) => h('button', { label, key: `month ${n}`,
       onclick: () => { months.set(crew, addMonths(month, n)); draw(); } }, text);
-    box.replaceChildren(h('div.line', h('span.noprint', step(-1, '‹', 'The month before')), h('h3', monthName(month)),
+    fill(box, h('div.line', h('span.noprint', step(-1, '‹', 'The month before')), h('h3', monthName(month)),
       h('span.noprint', step(1, '›', 'The next month')),
       h('span.soft.num.push', `flight ${hm(sum(list, 'flight'))} · FDP ${hm(sum(list, 'fdp'))} · ${clockName()}`)), monthTable(name, month, duties));
   }
   if (!months.has(crew)) months.set(crew, bestMonth(duties.map(it => it.begin), now()));
-  months.set(crew, addMonths(months.get(crew), 0));  // (of the clock that is chosen now)
+  months.set(crew, monthOf(months.get(crew) + DAY));  // (of the clock that is chosen now)
   draw();
   return box;
 }
 
 function screenButtons(crew, mine) {
-  const box = h('input', { type: 'checkbox', checked: kept('me') === crew, onchange: () => { keep('me', box.checked ? crew : null); mine(); } });
+  const box = h('input', { type: 'checkbox', checked: kept('me') === crew, onchange: () => mine(box.checked ? crew : null) });
   return h('span.line.push.noprint', h('label.small', box, ' This is me'), h('button', { onclick: () => print() }, 'Print'));
 }
 
@@ -64,11 +64,15 @@ export function memberView(crew, stop, isScreen, mine) {
   const it = memberOf(crew), heading = isScreen ? 'h1' : 'h2';
   if (!it) return h('div.stack', h(heading, { tabindex: -1 }, crew), inWords(2));
   const roster = h('div.stack', pending());
-  rosterOf(crew, 0, stop).then(duties => roster.replaceChildren(rosterTable(it, duties))).catch(unlessLost);
+  rosterOf(crew, 0, stop).then(duties => {
+    const isFirst = !months.has(crew);
+    fill(roster, rosterTable(it, duties));
+    if (isFirst && isPhone()) roster.querySelector('tr:not(.coming) + .coming')?.scrollIntoView();
+  }).catch(unlessLost);
   const head = h('div.line', h(heading, { tabindex: -1 }, h('bdi', it.name)), h('span.soft', `${crew} · ${it.seat} · ${it.base}`),
     isScreen && screenButtons(crew, mine));
-  const more = [limitsOf(crew, stop), h('details.card.noprint', h('summary', 'Add a ground duty'), groundForm(it)),
-    h('details.card.noprint', h('summary', 'Record flying for another airline'), outsideForm(it))];
+  const more = [limitsOf(crew, stop), h('details.card.noprint', h('summary', 'Add a ground duty'), groundForm(crew)),
+    h('details.card.noprint', h('summary', 'Record flying for another airline'), outsideForm(crew))];
   if (isScreen) return h('div.stack', head, h('div.two', roster, h('div.stack', more)));
   return h('div.stack', head, link('member/' + crew, 'Open the whole page'), roster, more);
 }

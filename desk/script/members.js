@@ -1,12 +1,13 @@
 // The members, and the bases with their zones; forms that add one.
 
-import { act, isDone } from './acting.js';
+import { act } from './acting.js';
 import { $, h } from './dom.js';
 import { known } from './known.js';
 import { tell } from './messages.js';
 import { empty, heads, link, select, upper } from './pieces.js';
 import { RULES, shownAt17, zoneOf } from './zones.js';
 
+const OTHER = '?', RULE_EXAMPLE = 'CET-1CEST,M3.5.0,M10.5.0/3';
 const clocks = zone => `at 17:00 UTC a clock there shows ${shownAt17(zone, 0)} on 15 January and ${shownAt17(zone, 6)} on 15 July`;
 const textField = most => h('input', { required: true, maxlength: most, spellcheck: 'false', autocomplete: 'off' });
 
@@ -16,7 +17,7 @@ function memberForm() {
   function add(e) {
     e.preventDefault();
     const command = { do: 'add-crew', crew: upper(id), seat: seat.value, name: name.value, ...(base.value === 'HOME' ? {} : { base: base.value }) };
-    act(command, `${name.value} (${upper(id)}) is a member`).then(answer => isDone(answer) && $('main').querySelector('form input')?.focus());
+    act(command).then(isDone => isDone && $('main').querySelector('form input')?.focus());
   }
   return h('form.card', { onsubmit: add }, h('h2', 'Add a member'),
     h('div.fields', h('label', 'Id', id), h('label', 'Name', name), h('label', 'Seat', seat), h('label', 'Base', base)),
@@ -25,19 +26,23 @@ function memberForm() {
 }
 
 function baseForm() {
-  const id = textField(12), rule = h('input', { list: 'rules', required: true, maxlength: 64, spellcheck: 'false', autocomplete: 'off',
-    placeholder: RULES[0][0] }), hint = h('span.hint');
-  rule.addEventListener('input', () => {
-    const zone = zoneOf(rule.value);
-    hint.textContent = zone ? `Check it: ${clocks(zone)}.` : rule.value && 'not a rule yet';
-  });
+  const id = textField(12), rule = textField(64), hint = h('p.hint'), isOther = () => place.value === OTHER;
+  const place = select([['', 'choose'], ...RULES, [OTHER, 'another']], '', { required: true });
+  const typed = h('label', 'POSIX rule', rule, h('span.hint', `such as ${RULE_EXAMPLE}: hours west of UTC, and when clocks change`));
+  const chosen = () => isOther() ? rule.value.trim() : place.value;
+  function draw() {
+    const zone = zoneOf(chosen());
+    typed.hidden = rule.disabled = !isOther();
+    hint.textContent = zone ? `Check it: ${clocks(zone)}.` : isOther() && rule.value ? 'not a rule yet' : '';
+  }
   function add(e) {
     e.preventDefault();
-    if (!zoneOf(rule.value)) return tell(false, 'This is no POSIX rule.',
-      h('p', `Take one such as ${RULES[0][0]}. It has the hours west of UTC, and when daylight saving time begins and ends.`));
-    act({ do: 'add-base', base: upper(id), zone: rule.value }, `The base ${upper(id)} is there`);
+    if (!zoneOf(chosen())) return tell(false, 'This is no POSIX rule.', h('p', `Take one such as ${RULE_EXAMPLE}.`));
+    act({ do: 'add-base', base: upper(id), zone: chosen() });
   }
-  return h('form.card', { onsubmit: add }, h('h2', 'Add a base'), h('div.fields', h('label', 'Id', id), h('label', 'Zone, a POSIX rule', rule, hint)),
+  draw();
+  return h('form.card', { onsubmit: add, oninput: draw, onchange: draw }, h('h2', 'Add a base'),
+    h('div.fields', h('label', 'Id', id), h('label', 'Zone', place), typed), hint,
     h('p.soft.small', 'A base can’t be changed or removed: check its zone first.'), h('div', h('button.main', 'Add base')));
 }
 function baseRow({ base, zone }) {

@@ -1,19 +1,19 @@
 // Duties that are no pairing: ground duty, and flying for another airline. Forms that add them, and what stands in the panel of each.
 
-import { act, isDone } from './acting.js';
+import { act } from './acting.js';
 import { closePanel } from './address.js';
 import { unlessLost } from './asking.js';
 import { clockName, until, when } from './clock.js';
-import { h } from './dom.js';
+import { fill, h } from './dom.js';
 import { hm, iso } from './instants.js';
-import { exceededBy, nameOf, rosterOf } from './known.js';
+import { exceededBy, rosterOf } from './known.js';
 import { tell } from './messages.js';
 import { heads, memberLink, pending, repeated, twice } from './pieces.js';
-import { limitName } from './refusals.js';
-import { areRead, timeField } from './timefield.js';
+import { limitName } from './sections.js';
+import { UNREAD, areRead, timeField } from './timefield.js';
+import { timesForm } from './timesform.js';
 
 const WHOLE_DAY = 8 * 60;  // of a ground duty, as it is guessed
-const UNREAD = 'A time is missing, or isn’t read.';
 const idField = value => h('input', { maxlength: 12, required: true, value, readonly: value != null,
   oninput: e => { e.target.dataset.typed = '1'; } });
 
@@ -22,70 +22,60 @@ function suggest(field, letter, crew, m) {
   if (m != null && !field.dataset.typed && !field.readOnly) field.value = `${letter}${crew}-${iso(m).slice(5, 10).replace('-', '')}`.slice(0, 12);
 }
 
-export function groundForm(member) {
-  const { crew, name } = member, id = idField(), task = h('input', { maxlength: 60, required: true, list: 'tasks' });
+export function groundForm(crew) {
+  const id = idField(), task = h('input', { maxlength: 60, required: true, list: 'tasks' });
   const begin = timeField('Begin', { changed: () => { suggest(id, 'G', crew, begin.at); end.read(); } });
   const end = timeField('End', { near: () => begin.at == null ? null : begin.at + WHOLE_DAY });
   function add(e) {
     e.preventDefault();
     if (!areRead([begin, end])) return tell(false, UNREAD);
-    const command = { do: 'add-ground', ground: id.value, crew, begin: iso(begin.at), end: iso(end.at), task: task.value };
-    act(command, `${name} (${crew}) has ${task.value} (${id.value})`,
-      { command: { do: 'cancel-ground', ground: id.value }, words: `${id.value} is cancelled` });
+    act({ do: 'add-ground', ground: id.value, crew, begin: iso(begin.at), end: iso(end.at), task: task.value },
+      { do: 'cancel-ground', ground: id.value, crew });
   }
   return h('form.stack', { onsubmit: add }, h('div.fields', h('label', 'Task', task), begin, end, h('label', 'Id', id)),
     h('div', h('button.main', 'Add ground duty')));
 }
 
 // A duty that is given is corrected: its id stays, and its times are filled in.
-export function outsideForm(member, duty) {
-  const { crew, name } = member, id = idField(duty?.id);
-  const report = timeField('Report', { value: duty?.begin, changed: () => suggest(id, 'X', crew, report.at) });
+export function outsideForm(crew, duty) {
+  const id = idField(duty?.id), report = timeField('Report', { value: duty?.begin, changed: () => suggest(id, 'X', crew, report.at) });
   const segments = repeated('segment', (before, n) => {
     const out = timeField(`Out ${n + 1}`, { value: duty?.segments[n]?.out, near: () => before[n - 1]?.in.at ?? report.at });
     const arrival = timeField(`In ${n + 1}`, { value: duty?.segments[n]?.in, near: () => out.at });
     return { out, in: arrival, box: h('div.fields', out, arrival) };
   }, duty?.segments.length);
   const release = timeField('Release', { value: duty?.end, near: () => segments.list.at(-1).in.at ?? report.at });
-  function record(e) {
-    e.preventDefault();
-    if (!areRead([report, release, ...segments.list.flatMap(s => [s.out, s.in])])) return tell(false, UNREAD);
-    act({
-      do: 'record-outside', outside: id.value, crew, report: iso(report.at), release: iso(release.at),
-      segments: segments.list.map(s => ({ out: iso(s.out.at), in: iso(s.in.at) })),
-    }, `Flying ${id.value} of ${name} (${crew}) for another airline is recorded`);
-  }
-  return h('form.stack', { onsubmit: record },
+  const head = () => ({ do: 'record-outside', outside: id.value, crew });
+  return timesForm('form.stack', { head, report, release, segments: segments.list, verb: 'Record', isCorrection: duty }, [
     h('p.small.soft', 'It counts in all limits but Tables A and B (117.23(a)). It stays for good, and so does each limit that it exceeds; recorded again under its id, it has the new times.'),
     h('div.fields', report), segments.box, h('div.fields', release, h('label', 'Id', id)),
-    h('div', h('button.main', 'Record')));
+  ]);
 }
 
-function cancellingOf(duty) {
-  const { id, crew } = duty, add = { do: 'add-ground', ground: id, crew, begin: iso(duty.begin), end: iso(duty.end), task: duty.task };
-  const cancel = () => act({ do: 'cancel-ground', ground: id, crew }, `${id} is cancelled`, { command: add, words: `${id} is there again` })
-    .then(answer => isDone(answer) && closePanel());
+function cancellingOf({ id, crew, begin, end, task }) {
+  const add = { do: 'add-ground', ground: id, crew, begin: iso(begin), end: iso(end), task };
+  const cancel = () => act({ do: 'cancel-ground', ground: id, crew }, add).then(isDone => isDone && closePanel());
   return h('div', twice('Cancel this duty', `Cancel ${id}?`, cancel));
 }
 const segmentTable = duty => h('table.small.num', h('caption.sr', `Segments of ${duty.id}`), heads(['Segment', 'Out', 'In', 'Block']),
   h('tbody', duty.segments.map((s, n) => h('tr', [n + 1, until(duty.begin, s.out), until(duty.begin, s.in),
     hm(s.in - s.out)].map(cell => h('td', cell))))));
-const correcting = (duty, crew) => h('details.card', h('summary', 'Correct its times'), outsideForm({ crew, name: nameOf(crew) }, duty));
 
 function partsOf(duty) {
-  const isGround = duty.kind === 'ground', sections = [...exceededBy(duty) ?? []];
+  const isGround = duty.kind === 'ground', sections = exceededBy(duty);
   return [
     h('h2', { tabindex: -1 }, isGround ? h('bdi', duty.task) : 'Flying for another airline'), h('p', duty.id, ' · ', memberLink(duty.crew)),
     h('p.num', `${when(duty.begin)} – ${when(duty.end)}`, !isGround && ` · FDP ${hm(duty.fdp)} · flight ${hm(duty.flight)}`, ` · ${clockName()}`),
     sections.length > 0 && h('div.note.bad', sections.map(it => h('p', h('b', it), ` ${limitName(it)}`))),
-    isGround ? cancellingOf(duty) : [segmentTable(duty), h('p.soft.small', 'Nothing removes it.'), correcting(duty, duty.crew)],
+    isGround ? cancellingOf(duty) : [segmentTable(duty), h('p.soft.small', 'Nothing removes it.'),
+      h('details.card', h('summary', 'Correct its times'), outsideForm(duty.crew, duty))],
   ];
 }
 export function otherDuty(kind, crew, id, stop) {
   const box = h('div.stack', pending());
   rosterOf(crew, 0, stop).then(duties => {
     const duty = duties.find(it => it.kind === kind && it.id === id);
-    box.replaceChildren(h('div.stack', duty ? partsOf(duty) : [h('h2', id), h('p', 'It is not in the book.')]));
+    fill(box, duty ? partsOf(duty) : [h('h2', id), h('p', 'It is not in the book.')]);
   }).catch(unlessLost);
   return box;
 }

@@ -1,20 +1,19 @@
 // A pairing: its seats, with who may fly it; its periods, as planned and as flown; cancelling it.
 
-import { act, isDone, release } from './acting.js';
+import { act, release } from './acting.js';
 import { closePanel } from './address.js';
 import { unlessLost } from './asking.js';
 import { candidates } from './candidates.js';
 import { clockName, days, until, when } from './clock.js';
-import { h } from './dom.js';
+import { fill, h } from './dom.js';
 import { flownForm } from './flown.js';
 import { hm, signed } from './instants.js';
 import { SEATS, detailOf, exceededBy, freeSeats, nameOf, pairingOf } from './known.js';
 import { startMarks } from './marks.js';
-import { heads, memberLink, pending, seatName, tag, twice } from './pieces.js';
-import { inWords, limitName } from './refusals.js';
+import { heads, memberLink, pending, routeOf, seatName, tag, twice } from './pieces.js';
+import { inWords } from './refusals.js';
+import { limitName } from './sections.js';
 import { swaps } from './swaps.js';
-
-const route = it => it.periods.flatMap((p, n) => p.plan.segments.flatMap((s, k) => n || k ? [s.to] : [s.from, s.to])).join('–');
 
 // A time in force; behind one that isn't as planned, by how much.
 const held = (text, m, plan) => [text, m !== plan && h('span.soft.late', ` ${signed(m - plan)}`)];
@@ -34,24 +33,24 @@ function periodTable(it, period) {
 
 function recordedOf(it, period) {
   const lines = SEATS.flatMap(seat => {
-    const crew = it.seats[seat], sections = exceededBy({ crew, key: `pairing ${it.pairing}/${period.period}` }) ?? [];
-    return [...sections].map(section => h('p', h('b', section), ` ${limitName(section)}: `, h('bdi', nameOf(crew)), ` (${crew})`));
+    const crew = it.seats[seat], sections = exceededBy({ crew, key: `pairing ${it.pairing}/${period.period}` });
+    return sections.map(section => h('p', h('b', section), ` ${limitName(section)}: `, h('bdi', nameOf(crew)), ` (${crew})`));
   });
   return lines.length > 0 && h('div.note.bad', lines);
 }
 
 function periodCard(it, period) {
   const isCrewed = !freeSeats(it).length;
-  const fill = () => {
+  const toggle = () => {
     const old = card.querySelector('form'), form = old ? null : flownForm(it, period);
     old?.remove();
     if (form) { card.append(form); form.querySelector('input').focus(); }
   };
-  const card = h('section.card', { 'aria-label': `Period ${period.period}` },
+  const card = h('section.card', { label: `Period ${period.period}` },
     h('div.line.end', h('h3', `Period ${period.period} `, tag(period.flown)), h('span.num', `FDP ${hm(period.fdp)} · flight ${hm(period.flight)}`)),
     recordedOf(it, period), periodTable(it, period),
     h('div.line.noprint',
-      h('button', { 'data-key': `fly ${period.period}`, disabled: !isCrewed, onclick: fill },
+      h('button', { key: `fly ${period.period}`, disabled: !isCrewed, onclick: toggle },
         period.flown ? 'Correct flown times' : 'Enter flown times'),
       !isCrewed && h('span.soft.small', 'needs both seats')));
   return card;
@@ -59,15 +58,15 @@ function periodCard(it, period) {
 
 function seatLine(it, seat, open) {
   const crew = it.seats[seat], name = nameOf(crew);
-  const button = (verb, sign, press) => h('button', { 'data-key': `${verb} ${seat}`, 'aria-label': `${verb} ${name}`, onclick: press }, verb + sign);
-  const buttons = () => h('span.line.noprint', button('Release', '', () => release(crew, name, it.pairing)),
+  const button = (verb, sign, press) => h('button', { key: `${verb} ${seat}`, label: `${verb} ${name}`, onclick: press }, verb + sign);
+  const buttons = () => h('span.line.noprint', button('Release', '', () => release(crew, it.pairing)),
     button('Replace', '…', () => open(stop => candidates(it.pairing, seat, stop, crew))), button('Swap', '…', () => open(stop => swaps(it, seat, stop))));
   return h('li.candidate', h('span', h('span.soft', seatName(seat) + ' '), crew ? memberLink(crew) : h('b.bad', 'free')), crew && !it.isFlown && buttons());
 }
 
 function cancelling(it) {
-  const isHeld = freeSeats(it).length < SEATS.length, words = `${it.pairing} is cancelled`;
-  const cancel = () => act({ do: 'cancel-pairing', pairing: it.pairing }, words).then(answer => isDone(answer) && closePanel());
+  const isHeld = freeSeats(it).length < SEATS.length;
+  const cancel = () => act({ do: 'cancel-pairing', pairing: it.pairing }).then(isDone => isDone && closePanel());
   return h('div.line.noprint', twice('Cancel pairing', `Cancel ${it.pairing} for good?`, cancel, { disabled: isHeld }),
     isHeld && h('span.soft.small', 'release both seats first'));
 }
@@ -79,14 +78,14 @@ function parts(it, stop, heading) {
     inner.abort();
     inner = new AbortController();
     startMarks(it.pairing);
-    extra.replaceChildren(make(AbortSignal.any([stop, inner.signal])));
+    fill(extra, make(AbortSignal.any([stop, inner.signal])));
     extra.querySelector('button, input')?.focus();
   };
   startMarks(it.pairing);
   return [
     h('div.line.end', h(heading, { tabindex: -1 }, `Pairing ${it.pairing} `, tag(it.isFlown)),
       h('span.soft.num', `${days(it)} · ${clockName()}`)),
-    h('p.num', route(it)), h('ul.plain', SEATS.map(seat => seatLine(it, seat, open))), extra,
+    h('p.num', routeOf(it.periods.map(p => p.plan))), h('ul.plain', SEATS.map(seat => seatLine(it, seat, open))), extra,
     !it.isFlown && freeSeats(it).map(seat => candidates(it.pairing, seat, stop)), it.periods.map(p => periodCard(it,
       p)), !it.isFlown && cancelling(it),
   ];
@@ -96,6 +95,6 @@ function parts(it, stop, heading) {
 export function pairingView(id, stop, isScreen) {
   const heading = isScreen ? 'h1' : 'h2', title = h(heading, { tabindex: -1 }, `Pairing ${id}`), isThere = pairingOf(id);
   const box = h('div.stack.pairing', title, isThere ? pending() : inWords(4));
-  if (isThere) detailOf(id, stop).then(it => box.replaceChildren(h('div.stack', parts(it, stop, heading)))).catch(unlessLost);
+  if (isThere) detailOf(id, stop).then(it => fill(box, parts(it, stop, heading))).catch(unlessLost);
   return box;
 }

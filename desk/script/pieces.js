@@ -6,6 +6,10 @@ import { nameOf } from './known.js';
 export const link = (to, ...parts) => h('a', { href: '#/' + to }, parts);
 export const memberLink = crew => h('span', link('member/' + crew, h('bdi', nameOf(crew) || crew)), h('span.soft.small', ` ${crew}`));
 export const tag = isFlown => h('span', { class: isFlown ? 'tag flown' : 'tag plan' }, isFlown ? 'flown' : 'planned');
+// What a member does by a duty, behind the member's name.
+export const dutyText = it => it.kind === 'outside' ? `flies for another airline (${it.id})`
+  : it.kind === 'ground' ? `has ${it.task} (${it.id})` : `has ${it.name}`;
+export const routeOf = plans => plans.flatMap((p, n) => p.segments.flatMap((s, k) => n || k ? [s.to] : [s.from, s.to])).join('–');
 export const seatName = seat => seat === 'captain' ? 'Captain' : 'First officer';
 export const heads = names => h('thead', h('tr', names.map(name => h('th', { scope: 'col' }, name))));
 // What is in a field of an id, a flight or an airport: all have capital letters.

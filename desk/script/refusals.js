@@ -2,11 +2,14 @@
 // the two.
 
 import { unlessLost } from './asking.js';
-import { clockName, dated, when } from './clock.js';
+import { clockName, when } from './clock.js';
 import { h } from './dom.js';
-import { hm } from './instants.js';
-import { clashOf, nameOf } from './known.js';
+import { at } from './instants.js';
+import { clashOf, detailOf, nameOf, rosterOf } from './known.js';
+import { dutyText } from './pieces.js';
 import { reading } from './reading.js';
+import { wrongText } from './schedule.js';
+import { limitName, limitText, nearestRest } from './sections.js';
 
 export const REFUSALS = {
   1: ['Another command has this number.', 'Nothing was done. Try again.'],
@@ -24,8 +27,8 @@ export const REFUSALS = {
   13: ['The pairing has no such period.', 'Periods count from 1.'],
   14: ['A ground duty has this id already.', 'Choose another id.'],
   15: ['There is no such ground duty.', 'It may have been cancelled already.'],
-  16: ['The times are out of order.', 'Report, out and in of each segment, and release follow one another. After midnight the date is another one.'],
-  17: ['A segment doesn’t depart from where the one before arrived.', 'Correct the airports.'],
+  16: ['The times are out of order.', 'Report, Out and In of each segment, and Release follow one another, as do Begin and End. After midnight the date is another one.'],
+  17: ['A segment doesn’t depart from where the one before arrived.', 'Correct From and To.'],
   18: ['A text has a sign that it may not have, or it is empty or too long.', 'Ids are of A-Z, 0-9 and -, up to 12. Flights and airports have no -. Names and tasks may have any letters, up to 60 bytes.'],
   19: ['The number of segments or periods is wrong.', 'A pairing has 1 to 10 periods, a period 1 to 12 segments. Flown times have as many segments as the plan.'],
   20: ['There is no such base.', 'Add the base under Members first.'],
@@ -39,56 +42,48 @@ export const REFUSALS = {
 export const wrongOf = answer => REFUSALS[answer.refusal]?.[0] ?? `The server’s answer is ${answer.status}.`;
 export const inWords = number => h('p', REFUSALS[number].join(' '));
 
-// The limits: a name, the words for a length, and what the length is held against: a window's or a table's most, or the least rest.
-const LIMITS = {
-  '117.11(a)(1)': ['Flight time of one period (Table A)', 'flight time', 'table'],
-  '117.13(a)': ['Flight duty period (Table B)', 'the flight duty period', 'table'],
-  '117.23(b)(1)': ['Flight time in 28 days', 'flight time in the 28 days', 'window'],
-  '117.23(b)(2)': ['Flight time in 365 days', 'flight time in the 365 days', 'window'],
-  '117.23(c)(1)': ['Flight duty in 7 days', 'flight duty in the 7 days', 'window'],
-  '117.23(c)(2)': ['Flight duty in 28 days', 'flight duty in the 28 days', 'window'],
-  '117.25(b)': ['30 hours free in 7 days', 'the longest free time in the 7 days before', 'rest'],
-  '117.25(e)': ['Rest before a report', 'the rest before', 'rest'],
-};
-export const SECTIONS = Object.keys(LIMITS);
-export const limitName = section => LIMITS[section][0];
-export const isRest = section => LIMITS[section][2] === 'rest';
-export const windowText = it => it.duty ? '' : it.from == null ? 'before 2000' : `from ${dated(it.from)}`;
-
-export function limitText(it) {
-  const [, words, kind] = LIMITS[it.section], used = hm(it.minutes), limit = hm(it.limit);
-  if (kind === 'rest') return `${words} ${it.duty} is ${used}, and must be at least ${limit}`;
-  if (kind === 'table') return `${words} of ${it.duty} is ${used}, and may be at most ${limit}`;
-  return `${words} ${windowText(it)} is ${used}, and may be at most ${limit}`;
+// The name that a member of the JSON has on the screen.
+const SHOWN = { crew: 'Id', base: 'Id', ground: 'Id', outside: 'Id', segments: 'Out or In', periods: 'Flight, From, To or a time' };
+function fieldName(field, command) {
+  const wrong = field === 'periods' && wrongText(command.periods), text = command[field];
+  return wrong || (SHOWN[field] ?? field[0].toUpperCase() + field.slice(1)) + (typeof text === 'string' ? ` “${text}”` : '');
 }
 const limitLine = (text, section) => h('p.bad', text, h('span.soft', ` (${section})`));
 
-// By how much a member would break limits with a pairing; if that can't be told, which.
-async function broken(crew, pairing, sections) {
-  try {
-    const limits = (await reading.limits(crew, pairing)).filter(it => it.exceeds);
-    if (limits.length) return limits.map(it => limitLine(limitText(it), it.section));
-  } catch (why) { unlessLost(why); }
-  return sections.map(it => limitLine(limitName(it), it));
+const groundDuty = ({ begin, end }) => ({ begin: at(begin), end: at(end) });
+// What a member's limits would be with the duties of a command; of a ground duty, whose limits no report has, only those of rests.
+async function limitsWith(command, crew, sections) {
+  if (command.do === 'assign') return (await reading.limits(crew, command.pairing)).filter(it => it.exceeds);
+  if (command.do !== 'add-ground') return [];
+  const duty = groundDuty(command), limits = await reading.limits(crew);
+  const duties = [...await rosterOf(crew), duty].sort((a, b) => a.begin - b.begin);
+  return limits.filter(it => sections.includes(it.section)).map(it => nearestRest(it, duties, duty)).filter(it => it?.minutes < it.limit);
+}
+// By how much a member would break limits; if that can't be told, which.
+async function broken(command, crew, sections) {
+  const limits = await limitsWith(command, crew, sections).catch(unlessLost);
+  return limits?.length ? limits.map(it => limitLine(limitText(it), it.section)) : sections.map(it => limitLine(limitName(it), it));
 }
 
-// Which duty of the member is in the way of a pairing.
-async function inTheWay({ crew, pairing }) {
-  const duty = await clashOf(crew, pairing).catch(unlessLost);
-  return duty && h('p.bad', h('bdi', nameOf(crew)), ` (${crew}) has ${duty.task ?? duty.name}, ${when(duty.begin)} to ${when(duty.end)}, ${clockName()}.`);
+// Which duties are in the way of those that a command gives to members.
+async function inTheWay({ do: verb, crew, pairing, other_crew, other_pairing, ...ground }) {
+  const line = async (who, gained, given) => {
+    const duty = await clashOf(who, gained ? (await detailOf(gained)).periods : [groundDuty(ground)], given);
+    return duty && h('p.bad', h('bdi', nameOf(who)), ` (${who}) ${dutyText(duty)}, ${when(duty.begin)} to ${when(duty.end)}, ${clockName()}.`);
+  };
+  const lines = verb === 'swap' ? [line(crew, other_pairing, pairing), line(other_crew, pairing, other_pairing)] : [line(crew, pairing)];
+  return (await Promise.all(lines)).filter(Boolean);
 }
 
-// A refusal of a command for people: also which field, period or record, and by how much limits would be broken.
+// A refusal of a command for people: also which field, period or record, which duty is in the way, and by how much limits would be broken.
 export async function explained(answer, command = {}) {
-  const more = [answer.field && `It is about “${answer.field}”.`, answer.period && `Period ${answer.period}.`,
-    answer.line != null && `Record ${answer.line}.`];
+  const more = [answer.field && `It is about ${fieldName(answer.field, command)}.`, answer.period && `Period ${answer.period}.`];
   const box = h('div', h('p', [wrongOf(answer), ...more.filter(Boolean)].join(' ')));
   for (const crew of new Set(answer.limits?.map(it => it.crew))) {
     const sections = answer.limits.filter(it => it.crew === crew).map(it => it.section);
-    const lines = command.do === 'assign' ? await broken(crew, command.pairing, sections) : sections.map(it => limitLine(limitName(it), it));
-    box.append(h('p', h('bdi', nameOf(crew)), ` (${crew}):`), ...lines);
+    box.append(h('p', h('bdi', nameOf(crew)), ` (${crew}):`), ...await broken(command, crew, sections));
   }
-  if (answer.refusal === 11 && command.do === 'assign') box.append(await inTheWay(command) ?? '');
+  if (answer.refusal === 11) box.append(...await inTheWay(command).catch(unlessLost) ?? []);
   const advice = REFUSALS[answer.refusal]?.[1];
   if (advice) box.append(h('p.soft', advice));
   return box;

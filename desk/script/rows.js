@@ -4,7 +4,7 @@ import { address, dutyPanel } from './address.js';
 import { bar, labels, lanesOf, nextIn } from './bars.js';
 import { unlessLost } from './asking.js';
 import { when } from './clock.js';
-import { $, all, h, keyed } from './dom.js';
+import { $, all, fill, h, keyed } from './dom.js';
 import { startDrag } from './drag.js';
 import { hm, plural, sum } from './instants.js';
 import { exceededBy, freeSeats, known, nameOf, openPairings, rosterOf } from './known.js';
@@ -28,7 +28,7 @@ function refocus(part) {
 export function memberRow(it) {
   const track = h('div.track', { role: 'gridcell' }), hours = h('span.num'), mark = h('span.mark', { 'aria-hidden': 'true' });
   const short = `${it.crew} ${it.seat === 'captain' ? 'CPT' : 'FO'}${it.base === 'HOME' ? '' : ' ' + it.base}`;
-  const who = h('a.who', { role: 'rowheader', href: '#/member/' + it.crew, tabindex: -1, 'data-key': `who ${it.crew}`, title: it.name },
+  const who = h('a.who', { role: 'rowheader', href: '#/member/' + it.crew, tabindex: -1, key: `who ${it.crew}`, title: it.name },
     mark, h('b', h('bdi', it.name)), h('small', h('span', short), hours));
   const row = h('div.row', { role: 'row', 'data-crew': it.crew }, who, track);
   view.rows.set(it.crew, { row, who, track, hours, mark, it, isNear: false, isDrawn: false });
@@ -40,14 +40,14 @@ function describe(it) {
   return it.kind === 'ground' ? `ground duty ${it.task}` : `flying ${it.id} for another airline`;
 }
 function dutyBar(it, n, list, lanes) {
-  const isFirst = list.findIndex(other => other.kind === it.kind && other.id === it.id) === n, exceeds = [...exceededBy(it) ?? []].join(', ');
+  const isFirst = list.findIndex(other => other.kind === it.kind && other.id === it.id) === n, exceeds = exceededBy(it).join(', ');
   const kind = it.kind === 'pairing' ? it.flown ? 'flown' : 'plan' : it.kind;
   const label = it.kind === 'ground' ? it.task : it.kind === 'pairing' && !isFirst ? `/${it.period}` : it.id;
   const isTight = lanes[n] > 0 || list.some((other, k) => lanes[k] > 0 && other.begin < it.end && it.begin < other.end);
   const figures = it.fdp != null && `FDP ${hm(it.fdp)}, flight ${hm(it.flight)}`;
   return bar(it, nextIn(list, lanes, n), [kind, exceeds && 'exceeds', isTight && 'tight'], labels(it, label), {
-    'data-key': `${it.crew} ${it.key}`, 'data-to': dutyPanel(it), style: { '--lane': lanes[n] },
-    'aria-label': `${nameOf(it.crew)}: ${describe(it)}, ${when(it.begin)} to ${when(it.end)}${exceeds && ', exceeds ' + exceeds}`,
+    key: `${it.crew} ${it.key}`, 'data-to': dutyPanel(it), style: { '--lane': lanes[n] },
+    label: `${nameOf(it.crew)}: ${describe(it)}, ${when(it.begin)} to ${when(it.end)}${exceeds && ', exceeds ' + exceeds}`,
     title: [`${it.kind === 'ground' ? it.task : it.name}  ${when(it.begin)} – ${when(it.end)}`, figures,
       exceeds && `exceeds ${exceeds}`].filter(Boolean).join('\n'),
   });
@@ -60,7 +60,7 @@ export function drawRow(crew, anyway) {
   it.isDrawn = true;
   const list = roster.filter(isShown), { lanes } = lanesOf(list), back = refocus(it.track);
   it.hours.textContent = hm(sum(list, 'flight'));
-  it.track.replaceChildren(...list.map((duty, n) => dutyBar(duty, n, list, lanes)));
+  fill(it.track, list.map((duty, n) => dutyBar(duty, n, list, lanes)));
   markPanel(it.track);
   back();
 }
@@ -87,8 +87,8 @@ export async function readRosters(stop) {
 function openBar(it, n, list, lanes) {
   const needs = freeSeats(it).join(' and ');
   return bar(it, nextIn(list, lanes, n), ['open', freeSeats(it).length === 1 && 'half'], labels(it, it.pairing), {
-    'data-key': `open ${it.pairing}`, 'data-to': 'pairing/' + it.pairing, 'data-open': it.pairing, style: { top: `${lanes[n] * LANE + 0.1}rem` },
-    'aria-label': `Open pairing ${it.pairing}, ${when(it.begin)} to ${when(it.end)}, needs ${needs}`,
+    key: `open ${it.pairing}`, 'data-to': 'pairing/' + it.pairing, 'data-open': it.pairing, style: { top: `${lanes[n] * LANE + 0.1}rem` },
+    label: `Open pairing ${it.pairing}, ${when(it.begin)} to ${when(it.end)}, needs ${needs}`,
     title: `${it.pairing}  ${when(it.begin)} – ${when(it.end)}\nneeds ${needs}\nDrag it to a member, or press Enter`, onpointerdown: e => startDrag(e,
       it.pairing),
   });
@@ -97,7 +97,7 @@ export function openLanes() {
   const list = openPairings().filter(isShown), { lanes, count } = lanesOf(list, (view.to - view.from) / 30);
   const height = `${Math.min(LANES, Math.max(1, count)) * LANE + 0.3}rem`;
   return h('div.lanes', { id: 'lanes', role: 'row' },
-    h('div', { role: 'rowheader' }, h('b', `${list.length} open`), h('br'), link('open', h('span.small', 'List')),
+    h('div', { role: 'rowheader' }, h('b', `${list.length} open`), h('br'), h('span.small.noprint', link('open', 'List')),
       count > LANES && h('div.small.soft', `${count} lanes: scroll`)),
     h('div.track', { role: 'gridcell', style: { height } }, list.map((it, n) => openBar(it, n, list, lanes))));
 }

@@ -1,12 +1,14 @@
 // Which screen is shown, and what stands in the panel beside it.
 
 import { address, closePanel } from './address.js';
-import { boardScreen } from './board.js';
-import { $, all, h, keyed } from './dom.js';
+import { boardScreen, todayAt } from './board.js';
+import { chooseClock, zones } from './clock.js';
+import { $, all, fill, h, isPhone, keyed } from './dom.js';
 import { exceedancesScreen } from './exceeded.js';
 import { focusOn } from './gridkeys.js';
 import { importScreen } from './importing.js';
-import { kept } from './kept.js';
+import { keep, kept } from './kept.js';
+import { known, memberOf } from './known.js';
 import { clearMarks } from './marks.js';
 import { memberView } from './member.js';
 import { membersScreen } from './members.js';
@@ -15,11 +17,9 @@ import { otherDuty } from './otherduty.js';
 import { pairingView } from './pairing.js';
 import { markPanel } from './rows.js';
 
-const PHONE = 760;  // pixels: at most so wide, it begins with the page of the member whose phone it is
-
 const SCREENS = {
   board: boardScreen, open: openScreen, exceedances: exceedancesScreen, members: membersScreen, import: importScreen,
-  member: ([crew], stop) => [memberView(crew, stop, true, drawMine)], pairing: ([id], stop) => [pairingView(id, stop, true)],
+  member: ([crew], stop) => memberView(crew, stop, true, takeMine), pairing: ([id], stop) => pairingView(id, stop, true),
 };
 const PANELS = {
   pairing: ([id], stop) => pairingView(id, stop), member: ([crew], stop) => memberView(crew, stop),
@@ -35,8 +35,18 @@ export function drawMine() {
   $('mine').href = `#/member/${me}`;
 }
 
+// Who sits here sees times by the clock of their base, until another one is chosen.
+function takeMine(crew) {
+  keep('me', crew);
+  const { base } = memberOf(crew) ?? {};
+  if (zones.get(base)) chooseClock(base);
+  known.recount();
+  show({ isAnew: true });
+}
+
+// (A phone begins with the page of the member whose phone it is.)
 function current() {
-  const { screen, panel } = address(), home = innerWidth <= PHONE && kept('me') ? ['member', kept('me')] : ['board'];
+  const { screen, panel } = address(), home = isPhone() && kept('me') ? ['member', kept('me')] : ['board'];
   return { screen: Object.hasOwn(SCREENS, screen[0]) ? screen : home, panel: panel && Object.hasOwn(PANELS, panel[0]) ? panel : null };
 }
 // Whether somebody types something in a part of the page that isn't sent yet.
@@ -47,12 +57,11 @@ function drawScreen([name, ...words], isAnew) {
   shown.stopScreen.abort();
   shown.stopScreen = new AbortController();
   document.body.className = name;
-  main.replaceChildren(...SCREENS[name](words, shown.stopScreen.signal).filter(Boolean));
+  fill(main, SCREENS[name](words, shown.stopScreen.signal));
   const heading = main.querySelector('h1');
   document.title = `${heading.textContent} – Roster book`;
-  for (const it of all('nav a')) it.toggleAttribute('aria-current', it.hash.slice(2).split('/')[0] === name);
-  for (const it of all('nav [aria-current]')) it.setAttribute('aria-current', 'page');
-  if ($('grid') && grid) requestAnimationFrame(() => $('grid')?.scrollTo(...scrolled));
+  for (const it of all('nav a')) it.ariaCurrent = it.hash.slice(2).split('/')[0] === name ? 'page' : null;
+  if ($('grid')) requestAnimationFrame(() => $('grid')?.scrollTo(isAnew ? scrolled[0] : todayAt(), scrolled[1]));
   if (isAnew) scrollTo(0, top);
   else if (!$('grid') || !grid) {
     scrollTo(0, 0);
@@ -66,9 +75,9 @@ function drawPanel(panel, isAnew) {
   box.hidden = !panel;
   if (!isAnew) clearMarks();
   if (panel) {
-    const close = h('button.close', { onclick: leavePanel, 'aria-label': 'Close the panel', 'data-key': 'close' }, '✕');
-    box.replaceChildren(close, PANELS[panel[0]](panel.slice(1), shown.stopPanel.signal));
-  } else box.replaceChildren();
+    const close = h('button.close', { onclick: leavePanel, label: 'Close the panel', key: 'close' }, '✕');
+    fill(box, close, PANELS[panel[0]](panel.slice(1), shown.stopPanel.signal));
+  } else fill(box);
   if (panel && !isAnew) {
     box.scrollTop = 0;
     box.focus({ preventScroll: true });

@@ -2,9 +2,10 @@
 // browser before it is sent, and until it is answered; sent again, also after a reload, it has the same number, and so is done once.
 
 import { NoAnswer, ask } from './asking.js';
-import { $, h } from './dom.js';
+import { $, fill, h } from './dom.js';
 import { plural } from './instants.js';
 import { keep, kept } from './kept.js';
+import { phrases } from './phrases.js';
 
 const TRIES = 4, SLOWEST = 30;  // fresh numbers for a command; seconds between two tries
 const JOURNAL = 100;  // answered commands that are remembered
@@ -40,7 +41,8 @@ async function delivered(it) {
       const answer = { status, ...JSON.parse(text) };
       pause = 0;
       done(it);
-      keep('journal', [{ number: it.number, words: it.words, result: answer.result ?? 'answered' }, ...journal()].slice(0, JOURNAL));
+      const words = answer.result === 'refused' ? it.refused : it.words;
+      keep('journal', [{ number: it.number, words, result: answer.result ?? 'answered' }, ...journal()].slice(0, JOURNAL));
       return answer;
     } catch (why) {
       if (!(why instanceof NoAnswer)) throw why;
@@ -56,15 +58,15 @@ async function delivered(it) {
 async function post(make, words) {
   let answer;
   for (let tries = 0; tries < TRIES; tries++) {
-    const number = freshNumber(), it = { number, words, at: Date.now(), ...make(number) };
+    const number = freshNumber(), it = { number, ...words, at: Date.now(), ...make(number) };
     setOutbox([...outbox(), it]);
     answer = await delivered(it);
     if (answer.refusal !== 1) break;
   }
   return answer;
 }
-export const send = (command, words) => post(number => ({ path: '/requests', body: JSON.stringify({ number, ...command }) }), words);
-export const sendSchedule = (csv, words) => post(number => ({ path: `/imports/${number}`, body: csv }), words);
+export const send = command => post(number => ({ path: '/requests', body: JSON.stringify({ number, ...command }) }), phrases(command));
+export const sendSchedule = (csv, words) => post(number => ({ path: `/imports/${number}`, body: csv }), { words, refused: words });
 
 // How the book would answer a command now; it keeps nothing of it.
 export async function check(command, signal) {
@@ -90,8 +92,8 @@ function drawOutbox() {
   clearTimeout(later);
   if (!list.length && outbox().length) later = setTimeout(drawOutbox, 500);
   box.hidden = !list.length;
-  if (!list.length) return box.replaceChildren();
-  box.replaceChildren(h('div.line', h('b', `${plural(list.length, 'command')} without an answer yet.`),
+  if (!list.length) return fill(box);
+  fill(box, h('div.line', h('b', `${plural(list.length, 'command')} without an answer yet.`),
     h('span', `${list.map(it => it.words).join('; ')}. Kept here, also over a reload, and sent again under the same number: it is done once.`),
     h('button', { onclick: () => wake() }, 'Send now'), h('button.danger', { onclick: forget }, 'Forget')));
 }

@@ -4,7 +4,7 @@ import { sendAgain } from './acting.js';
 import { beside, go } from './address.js';
 import { NoAnswer } from './asking.js';
 import { chooseClock, clock, zones } from './clock.js';
-import { $, h } from './dom.js';
+import { $, fill, h } from './dom.js';
 import { drawDrag, isDragged } from './drag.js';
 import { focusOn } from './gridkeys.js';
 import { help, listenToKeys } from './keys.js';
@@ -15,7 +15,6 @@ import { reading } from './reading.js';
 import { drawMark, drawRow } from './rows.js';
 import { drawMine, show } from './screens.js';
 import { view } from './view.js';
-import { RULES } from './zones.js';
 
 const OLD = 60_000;  // milliseconds, after which the book is read again when somebody comes back to the page
 const FOUND = 3000;  // pairings that the field offers
@@ -24,10 +23,10 @@ function drawHead() {
   $('openCount').textContent = openPairings().length;
   $('exceededCount').textContent = known.exceedances.length;
   $('exceededCount').classList.toggle('red', known.exceedances.length > 0);
-  $('clock').replaceChildren(...['UTC', ...zones.keys()].map(base => h('option', { value: base, selected: base === clock.base },
+  fill($('clock'), ['UTC', ...zones.keys()].map(base => h('option', { value: base, selected: base === clock.base },
     base === 'UTC' ? 'UTC' : `${base} time`)));
-  $('ids').replaceChildren(...known.members.map(it => h('option', { value: it.crew }, it.name)),
-    ...known.pairings.slice(-FOUND).map(it => h('option', { value: it.pairing }, 'pairing')));
+  fill($('ids'), known.members.map(it => h('option', { value: it.crew }, it.name)),
+    known.pairings.slice(-FOUND).map(it => h('option', { value: it.pairing }, 'pairing')));
   drawMine();
 }
 function setClock(base) {
@@ -83,7 +82,6 @@ async function firstReading() {
   }
 }
 async function start() {
-  $('rules').replaceChildren(...RULES.map(([rule, name]) => h('option', { value: rule }, name)));
   known.recount = drawHead;
   watchLine(() => reading.members(1), () => known.readAt && readAgain());
   await firstReading();

@@ -6,6 +6,7 @@ import { when } from './clock.js';
 import { h } from './dom.js';
 import { DAY } from './instants.js';
 import { known, nameOf } from './known.js';
+import { phrases } from './phrases.js';
 import { wrongOf } from './refusals.js';
 import { check } from './sending.js';
 
@@ -25,8 +26,7 @@ export function swaps(it, seat, signal) {
   async function look(other) {
     const otherCrew = other.seats[seat], command = { do: 'swap', pairing: it.pairing, crew, other_pairing: other.pairing, other_crew: otherCrew };
     const answer = await check(command, signal), ok = answer.result === 'accepted';
-    const words = `${nameOf(crew)} (${crew}) flies ${other.pairing}, ${nameOf(otherCrew)} (${otherCrew}) flies ${it.pairing}`;
-    const button = h('button.main', { 'aria-label': `Swap: ${words}`, onclick: () => act(command, words) }, 'Swap');
+    const button = h('button.main', { label: `Swap: ${phrases(command).words}`, onclick: () => act(command) }, 'Swap');
     const row = h('li.candidate',
       h('span', h('bdi', nameOf(otherCrew)), h('span.soft.small', ` ${otherCrew} · ${other.pairing} · ${when(other.begin)}`)),
       ok ? button : h('span.tag.red', why(answer)));
@@ -42,5 +42,5 @@ export function swaps(it, seat, signal) {
   lookAtAll().catch(unlessLost);
   if (!plans.length) list.append(h('li.soft', `No other planned pairing within ${DAYS} days has a ${seat}.`));
   const title = `With whom may ${nameOf(crew)} swap?`;
-  return h('section.card', { 'aria-label': title }, h('div.line.end', h('h3', title), progress), list);
+  return h('section.card', { label: title }, h('div.line.end', h('h3', title), progress), list);
 }

@@ -9,6 +9,7 @@ const WHOLE = /^(\d{4})-(\d\d)-(\d\d)[T ]+(\d\d):?(\d\d)$/;
 const SHIFT = /^([+-])(?:(\d+):(\d\d)|(\d{1,4}))$/;
 const OF_A_DAY = /^(?:(\d\d?)[ ./]+)?(\d\d?):?(\d\d)$/;
 const FAR = 30;  // days
+const DATED = '2025-06-12 08:00';
 
 // The instant that a text means beside another one; null if it means none.
 export function readTime(text, near) {
@@ -45,18 +46,19 @@ export function timeField(name, { value = null, near = () => null, plan = null, 
   const shown = m => m == null ? '' : isShort ? iso(m).slice(11, 16) : iso(m).slice(0, 16).replace('T', ' ');
   const hint = h('span.hint', { id: `hint${++count}` });
   const input = h('input', {
-    value: shown(value), 'aria-describedby': hint.id, 'aria-label': isShort ? `${name}, UTC` : null, spellcheck: 'false', autocomplete: 'off',
-    placeholder: isShort ? 'hh:mm' : '2025-06-12 08:00', oninput: () => { field.read(); changed(); },
+    value: shown(value), 'aria-describedby': hint.id, label: isShort ? `${name}, UTC` : null, spellcheck: 'false', autocomplete: 'off',
+    placeholder: isShort ? 'hh:mm' : DATED, oninput: () => { field.read(); changed(); },
   });
-  const field = isShort ? h('div', input, hint) : h('label', `${name} (UTC)`, input, hint);
+  const field = isShort ? h('div', input, hint) : h('label', `${name} `, h('b.utc', 'UTC'), input, hint);
   field.read = () => {
     const typed = input.value.trim();
     field.at = !typed ? null : typed === shown(value) ? value : readTime(typed, near());
-    const isWrong = typed !== '' && field.at == null;
+    const isWrong = typed !== '' && field.at == null, like = near() == null ? DATED : '11:05, +35 or 11 01:05';
     input.setAttribute('aria-invalid', isWrong);
-    hint.textContent = isWrong ? 'not a time' : field.at == null ? '' : readText(field.at, plan);
+    hint.textContent = isWrong ? `not a time, such as ${like}` : field.at == null ? '' : readText(field.at, plan);
   };
   field.read();
   return field;
 }
 export const areRead = fields => fields.every(it => it.at != null);
+export const UNREAD = 'A time is missing, or isn’t read.';

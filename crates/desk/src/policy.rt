@@ -2,4 +2,4 @@
 
 /// What a browser lets the page do.
 pub const POLICY: &str =
-    "default-src 'none'; script-src 'sha256-YvQh7rVELs/NKJQlhTW7zktkcjaoZ/XdMWihxbHb3o8='; style-src 'sha256-D6CSJeZMJL5TtuIZKuOXh8bxRxPeifV0DU/jrazT/J8='; connect-src 'self'; img-src data:; base-uri 'none'; form-action 'none'; frame-ancestors 'none'; require-trusted-types-for 'script'; trusted-types 'none'";
+    "default-src 'none'; script-src 'sha256-s0baVUBJP3GP4gD4SWdYnK/IX3yAiUVt1G0k/E60Bfc='; style-src 'sha256-LwglaqjE0SRCPwq1k/85OV/2cPoWspttzSrOzQwTqok='; connect-src 'self'; img-src data:; base-uri 'none'; form-action 'none'; frame-ancestors 'none'; require-trusted-types-for 'script'; trusted-types 'none'";
