@@ -92,6 +92,11 @@ def parts(*replies):
     return f'{{"parts":[{",".join(replies)}]}}'
 
 
+def many(*replies):
+    """The reply to lines."""
+    return f'{{"answers":[{",".join(replies)}]}}'
+
+
 def report(value):
     """A report in JSON, in short."""
     return 200, compact(value) + "\n", UNKEPT
@@ -129,6 +134,7 @@ NO_PAIRING_JSON = (*NO_PAIRING, UNKEPT)
 NO_GROUND = (409, refused(15, "NoSuchGround"))
 NONE_EXCEEDED = (200, "EXCEEDANCES 0\n")
 NONE_EXCEEDED_JSON = report({"exceedances": []})
+NONE_KEPT = report({"count": "0", "next": "1"})
 HIRED = "ROSTER C1 captain Ada Ray\n"
 
 # ---- On a book without crew.
@@ -155,6 +161,10 @@ GET /json/exceedances HTTP/1.1|Host: x||
 HTTP/1.1 200 OK|Content-Type: application/json|Content-Length: 19|Cache-Control: no-store|X-Content-Type-Options: nosniff|Cross-Origin-Resource-Policy: same-origin|Connection: close||{"exceedances":[]}_
 HEAD /json/exceedances HTTP/1.1|Host: x||
 HTTP/1.1 200 OK|Content-Type: application/json|Content-Length: 19|Cache-Control: no-store|X-Content-Type-Options: nosniff|Cross-Origin-Resource-Policy: same-origin|Connection: close||
+GET /json/count HTTP/1.1|Host: x||
+HTTP/1.1 200 OK|Content-Type: application/json|Content-Length: 25|Cache-Control: no-store|X-Content-Type-Options: nosniff|Cross-Origin-Resource-Policy: same-origin|Connection: close||{"count":"0","next":"1"}_
+HEAD /json/count HTTP/1.1|Host: x||
+HTTP/1.1 200 OK|Content-Type: application/json|Content-Length: 25|Cache-Control: no-store|X-Content-Type-Options: nosniff|Cross-Origin-Resource-Policy: same-origin|Connection: close||
 GET /json/crew/C9 HTTP/1.1|Host: x||
 HTTP/1.1 404 Not Found|Content-Type: application/json|Content-Length: 52|Cache-Control: no-store|X-Content-Type-Options: nosniff|Cross-Origin-Resource-Policy: same-origin|Connection: close||{"name":"NoSuchCrew","refusal":2,"result":"refused"}
 POST / HTTP/1.1|Host: x|Content-Length: 0||
@@ -307,7 +317,7 @@ ANSWERS = [
     (get("/reports/pairings/B101"), 404),
     (get("/reports/opened"), 404),
     (get("/reports/p"), 404),
-    # Paths below /json, where there are reports alone.
+    # Paths below /json, where there are reports, and the count of requests.
     (get("/json/exceedances?of=C9"), NONE_EXCEEDED_JSON),
     (get("HTTP://a.b:80/json/exceedances"), NONE_EXCEEDED_JSON),
     (get("/json/crew/C9"), NO_CREW_JSON),
@@ -317,6 +327,15 @@ ANSWERS = [
     (get("/json/reports/limits/C9/P9"), NO_CREW_JSON),
     (get("/json/reports/pairings"), report({"pairings": []})),
     (get("/json/reports/open"), report({"pairings": []})),
+    (get("/json/count?of=C9"), NONE_KEPT),
+    (get("http://a.b/json/count"), NONE_KEPT),
+    (get("/count"), 404),
+    (post("/count", CANCEL), 404),
+    (get("/json/count/"), 404),
+    (get("/json/count/1"), 404),
+    (get("/json/counts"), 404),
+    (get("/json/coun"), 404),
+    (get("/json/json/count"), 404),
     (get("/crew/json"), NO_CREW),
     (get("/json"), 404),
     (get("/json/"), 404),
@@ -341,6 +360,19 @@ ANSWERS = [
     (post("/check", CANCEL), 404),
     (post("/chec", CANCEL), 404),
     (get("/c"), 404),
+    (post("/lines", ""), (200, many())),
+    (post("/lines", CANCEL), (200, many(NO_GROUND[1]))),
+    (post("/lines?", f"{CANCEL}\n\n[]\n"), (200, many(NO_GROUND[1], NO_BODY[1]))),
+    (post("/lines/checks", f"{CANCEL}\n{CANCEL}"), (200, many(NO_GROUND[1], NO_GROUND[1]))),
+    (post("/lines/checks", b"\xff"), (200, many(NO_BODY[1]))),
+    (post("/lines/", CANCEL), 404),
+    (post("/lines/1", CANCEL), 404),
+    (post("/lines/check", CANCEL), 404),
+    (post("/lines/checks/", CANCEL), 404),
+    (post("/line", CANCEL), 404),
+    (get("/l"), 404),
+    (post("/json/lines", CANCEL), 404),
+    (post("/json/lines/checks", CANCEL), 404),
     (post("/imports/0", HEADER), 404),
     (post("/imports/01", HEADER), 404),
     (post("/imports/+1", HEADER), 404),
@@ -376,6 +408,9 @@ OTHER_METHODS = [
     ("/requests", "A-METHOD-OF-MORE-THAN-FIFTEEN-BYTES", "POST"),
     ("/checks", "GET", "POST"),
     ("/checks", "PUT", "POST"),
+    ("/lines", "GET", "POST"),
+    ("/lines", "PUT", "POST"),
+    ("/lines/checks", "HEAD", "POST"),
     ("/imports/3", "PUT", "POST"),
     ("/imports/3", "HEAD", "POST"),
     ("/crew/C1", "POST", "GET, HEAD"),
@@ -391,6 +426,8 @@ OTHER_METHODS = [
     ("/json/crew/C1", "POST", "GET, HEAD"),
     ("/json/reports/limits/C1/B101", "PUT", "GET, HEAD"),
     ("/json/reports/members", "get", "GET, HEAD"),
+    ("/json/count", "POST", "GET, HEAD"),
+    ("/json/count", "get", "GET, HEAD"),
 ]
 
 # What is ended after each of its bytes but the last, and how it is answered whole.
@@ -403,6 +440,7 @@ CUT = [
     (post("/checks", body_of(1, "hire C1 captain: Ada Ray")), response(200, ACCEPTED)),
     (HIRE, response(200, ACCEPTED)),
     (post("/imports/2", ONE_PAIRING), response(200, parts(ACCEPTED))),
+    (post("/lines", f"{body_of(4, 'hire C4 captain: Bo Lind')}\n{CANCEL}"), response(200, many(ACCEPTED, refused(1, "NumberUsed")))),
     (post("/requests", body_of(3, "outside X1 C1 10: 11:00 | 12:00-19:30 | 20:00")), response(200, ACCEPTED)),
 ]
 
@@ -461,6 +499,7 @@ HOUR = [
     ("GET /crew/C1", NO_CREW),
     ("GET /json/crew/C1", NO_CREW_JSON),
     ("GET /", DESK),
+    ("GET /json/count", NONE_KEPT),
     ("GET /reports/limits/C1", NO_CREW),
     ("GET /json/reports/members", report({"bases": [{"base": "HOME", "zone": EASTERN}], "members": []})),
     # What is only checked is answered, and not done.
@@ -476,6 +515,7 @@ HOUR = [
     (check("1 hire C1 captain: Ada Ray"), (200, ACCEPTED)),
     (check("1 hire C2 captain: Bo Lind"), (409, refused(1, "NumberUsed"))),
     (check("9 hire C1 captain: Ada Ray"), (409, refused(3, "CrewExists"))),
+    (("/lines/checks", f"{body_of(9, 'hire C3 captain: Bo Lind')}\n" * 2), (200, many(ACCEPTED, ACCEPTED))),
     (check("0 hire C3 captain: Bo Lind"), (422, refused(31, "BadJson", field="number"))),
     (check("9 plan p1"), (422, refused(18, "BadField", field="pairing"))),
     (check("9 plan P9"), (422, refused(19, "SegmentCount", period=0))),
@@ -489,6 +529,8 @@ HOUR = [
     (("/imports/500", ANOTHER_B102), (200, parts(ACCEPTED, refused(5, "PairingExists"), ACCEPTED))),
     (("/imports/7", TORN), (422, refused(30, "BadCsv", line=2))),
     (("/imports/7", JUNE.replace("B103,2", "B103,3")), (422, refused(30, "BadCsv", line=7))),
+    # 1 and 2, three parts of 3, and the first and the third of 500.
+    ("GET /json/count", report({"count": "7", "next": "501"})),
     ("GET /reports/members", (200, "MEMBERS 2\nC1 captain HOME Ada Ray\nF1 first officer HOME Zoë Roy\n")),
     ("4 assign B101 C1", (200, ACCEPTED)),
     ("5 assign B101 F1", (200, ACCEPTED)),
@@ -635,6 +677,10 @@ ROSTER C1 captain Ada Ray
 2025-06-11T15:45Z 2025-06-11T20:00Z outside X1 fdp 3:45 flight 2:30
 """)),
     ("GET /exceedances", (200, "EXCEEDANCES 3\n7 C1 117.13(a) B101/1\n7 F1 117.13(a) B101/1\n12 C1 117.25(e) outside X1\n")),
+    # Then 4, 5, 7 and 10 to 13; and the last number that there is.
+    ("GET /json/count", report({"count": "14", "next": "501"})),
+    ("9223372036854775807 base LAX: PST8PDT,M3.2.0,M11.1.0", (200, ACCEPTED)),
+    ("GET /json/count", report({"count": "15", "next": None})),
 ]  # fmt: skip
 
 

@@ -100,6 +100,12 @@ no_connections() {
     case_of "connections '$1'" 2 '' "error: invalid value '$1' for '--connections <N>': $2"$'\n*' serve "$room/unmade" 8117 --connections "$1"
 }
 
+# no_days FROM TO: a board of these is a mistake in the command line, also where there is no book.
+no_days() {
+    case_of "no days '$1' '$2'" 2 '' $'error: FROM and TO must be days such as 2025-06-01 and 2025-06-30,\n*Usage: rosterbook board \\[OPTIONS\\] <FILE> <FROM> <TO>\n*' \
+        board "$room/unmade" "$1" "$2"
+}
+
 # help_of COMMAND NAMES..: the help of the command, or of the program where that is '', has each name and fits 80 columns.
 help_of() {
     local command=$1 text name
@@ -138,6 +144,10 @@ command_lines() {
     missing '<FILE>' pairings --open
     missing '<FILE>' pairings --open --json
     missing '<FILE>' members --json
+    missing $'<FILE>\n<FROM>\n<TO>' board
+    missing '<TO>' board --json "$room/unmade" 2025-06-01
+    missing $'<FILE>\n<NUMBER>' request
+    missing '<NUMBER>' request "$room/unmade" --json
     missing '<CREW>' roster --json "$room/unmade"
     missing $'<FILE>\n<PORT>' serve
     missing '<PORT>' serve "$room/unmade"
@@ -173,6 +183,10 @@ command_lines() {
     unexpected pairings --open "$room/unmade" "$room/unmade"
     unexpected pairings "$room/unmade" --ope
     unexpected pairing "$room/unmade" B101 --open
+    unexpected board "$room/unmade" 2025-06-01 2025-06-30 2025-07-01
+    unexpected board "$room/unmade" 2025-06-01 2025-06-30 --open
+    unexpected request "$room/unmade" 7 8
+    unexpected request "$room/unmade" -1
     unexpected serve "$room/unmade" 8117 1
     unexpected serve "$room/unmade" -1
     unexpected serve "$room/unmade" 8117 --connections -1
@@ -184,6 +198,17 @@ command_lines() {
     no_number 1.5 'invalid digit found in string'
     no_number abc 'invalid digit found in string'
     no_number '' 'cannot parse integer from empty string'
+    case_of kept_under_0 2 '' $'error: invalid value \'0\' for \'<NUMBER>\': 0 is not in 1..=9223372036854775807\n*' request "$room/unmade" 0
+    case_of kept_under_no_number 2 '' $'error: invalid value \'x\' for \'<NUMBER>\': invalid digit found in string\n*' \
+        request "$room/unmade" x --json
+    no_days 2025-06-31 2025-07-01
+    no_days 2025-06-01 2025-6-30
+    no_days 2025-06-02 2025-06-01
+    no_days 2025-06-01 2025-08-02
+    no_days 1999-12-31 2000-01-01
+    no_days 2099-12-31 2100-01-01
+    no_days 2025-06-01T00:00Z 2025-06-02
+    no_days '' ''
     no_port 0 '0 is not in 1..=65535'
     no_port 65536 '65536 is not in 1..=65535'
     no_port 18446744073709551616 'number too large to fit in target type'
@@ -221,7 +246,7 @@ command_lines() {
 
 helps() {
     case_of help 0 'The roster book*' '' --help
-    help_of '' duty init 'do' import roster pairing limits exceedances members pairings serve FILE ZONE NUMBER PORT CREW PAIRING REPORT TIME "$zone" "$report" \
+    help_of '' duty init 'do' import roster pairing limits exceedances members pairings board request serve FILE ZONE NUMBER PORT FROM TO CREW PAIRING REPORT TIME "$zone" "$report" \
         REFUSALS.md 'man rosterbook'
     help_of duty duty ZONE REPORT TIME "$zone" "$report" 'UTC instant' Example:
     help_of init init FILE ZONE "$zone" UTC 'new or empty' 'base HOME' Example:
@@ -237,6 +262,8 @@ helps() {
     help_of exceedances exceedances FILE --json 'rosterbook exceedances roster.db' "'outside'" 'Exit status'
     help_of members members FILE --json 'rosterbook members roster.db' 'order of the ids' 'Exit status'
     help_of pairings pairings FILE --open --json 'rosterbook pairings roster.db --open' "'flown'" "'-' for a free seat" 'Exit status'
+    help_of board board FILE FROM TO --json 'rosterbook board roster.db 2025-06-01 2025-06-30' 'At most 62 days' 'Exit status'
+    help_of request request FILE NUMBER --json 'rosterbook request roster.db 7' 'part 0' 'Exit status'
     help_of serve serve FILE PORT '--connections <N>' '[default: 1000000]' 'from 1 to 65535' 'from 1 to 1000000' \
         'rosterbook serve roster.db 8117 --connections 2' 'listening PORT' '92 Channel' '93 Network' '90 Store' 'Exit status'
 }
@@ -279,6 +306,11 @@ books() {
     case_of members_in_json 0 "{\"bases\":\\[{\"base\":\"HOME\",\"zone\":\"$zone\"}\\],\"members\":\\[\\]}" '' members --json "$book"
     case_of pairings_in_json 0 '{"pairings":\[\]}' '' pairings "$book" --json
     case_of open_pairings_in_json 0 '{"pairings":\[\]}' '' pairings --json "$book" --open
+    case_of board_of_an_empty_book 0 $'BOARD 2025-06-01 2025-08-01\nOPEN 0' '' board "$book" 2025-06-01 2025-08-01
+    case_of board_in_json 0 "{\"bases\":\\[{\"base\":\"HOME\",\"zone\":\"$zone\"}\\],\"members\":\\[\\],\"open\":\\[\\]}" '' \
+        board --json "$book" 2025-06-01 2025-06-01
+    case_of request_without_a_part 0 'REQUEST 7' '' request "$book" 7
+    case_of request_in_json 0 '{"number":"9223372036854775807","parts":\[\]}' '' request "$book" 9223372036854775807 --json
     # Standard input is at its end: it is no command, and has no line.
     case_of no_command_on_standard_input 1 "$no_command" '' 'do' "$book" --dry-run
     case_of no_line_on_standard_input 0 '' '' 'do' "$book" --lines

@@ -18,12 +18,13 @@ import sys
 import tempfile
 from contextlib import closing
 from dataclasses import dataclass
+from datetime import datetime, timedelta
 from pathlib import Path
 
 from exchanges import UNKEPT, get, refused, response
 from judgement import DAY, ZONES, Period, Training, minute_of, nearest
-from office import SECTIONS, TABLES, TOP, Book, Ran, build, compact, instant, order, rosterbook, told
-from reports import A_LATE_PERIOD
+from office import SECTIONS, TABLES, TOP, Book, Ran, build, compact, instant, order, rosterbook, told, written
+from reports import A_LATE_PERIOD, AT_THE_EDGES
 from server import serving
 
 HOME, ARIZONA, LONDON = (ZONES[base].rule for base in ("HOME", "PHX", "LON"))
@@ -103,6 +104,24 @@ EARLY = compact({
     "segments": [{"out": "2000-01-02T01:00Z", "in": "2000-01-03T23:00Z"}],
 })  # fmt: skip
 
+# C8 and F9 fly both periods of P9 for too long, and the second is corrected. An outside period of C8 has the same id; there is too little
+# rest before it, also after it was moved.
+TOO_LONG = """
+    hire C8 captain: Max Roe
+    hire F9 first-officer: Ann Oh
+    plan P9 10: 11:00 | 12:00-14:00 | 15:00; 11: 11:00 | 12:00-14:00 | 15:00
+    assign P9 C8
+    assign P9 F9
+    fly P9 1 10: 11:00 | 12:00-+1 02:00 | +1 03:00
+    fly P9 2 11: 11:00 | 12:00-+1 01:00 | +1 02:00
+    fly P9 2 11: 11:00 | 12:00-+1 00:00 | +1 02:00
+    outside P9 C8 12: 03:00 | 03:00-04:00 | 05:00
+    outside P9 C8 12: 04:00 | 04:00-05:00 | 05:00
+"""
+
+# The duties at the edges of 10 and 11 June of tests/reports.py.
+EDGES = "hire C9 captain PHX: Lee Roy" + AT_THE_EDGES + TOO_LONG
+
 CASES = {
     "an_empty_book": "",
     "bases_without_members": BASES,
@@ -113,6 +132,7 @@ CASES = {
     "exceedances": BASES + CREW + EXCEEDED,
     "ground_and_outside_duties": BASES + CREW + OUTSIDE,
     "windows_before_2000": BASES + CREW + EARLY,
+    "duties_at_the_edges_of_days": BASES + CREW_AT_HOME + EDGES,
     "all_of_these": BASES + CREW + ODD_TEXTS + PLANNED + FLOWN + OUTSIDE,
 }
 
@@ -242,6 +262,31 @@ class Reading:
             rows.append({"number": str(number), "part": part, "crew": crew, "section": SECTIONS[section - 1], **named})
         return {"exceedances": rows}
 
+    # ---- A board, and what is kept under a number
+
+    def exceeded(self, crew, duty):
+        """A duty of a member with the sections of those exceedances that name it; a ground duty without any."""
+        if duty["kind"] == "ground":
+            return duty
+        named = [name for name in ("kind", "pairing", "period", "outside") if name in duty]
+        found = [it for it in self.exceedances()["exceedances"] if it["crew"] == crew and all(it.get(name) == duty[name] for name in named)]
+        return {**duty, "exceeds": [it["section"] for it in found]}
+
+    def board(self, first, last):
+        """The board of the days from one to another: instants sort as texts do."""
+        begin, end = f"{first}T00:00Z", written(datetime.fromisoformat(last) + timedelta(days=1))
+        value = self.members()
+        for member in value["members"]:
+            duties = self.roster(member["crew"])["duties"]
+            member["duties"] = [self.exceeded(member["crew"], it) for it in duties if it["begin"] < end and begin < it["end"]]
+        times = [(pairing, [period["actual"] or period for period in pairing["periods"]]) for pairing in self.pairings(is_open=True)["pairings"]]
+        shown = [pairing for pairing, periods in times if any(it["report"] < end and begin < it["release"] for it in periods)]
+        return {**value, "open": shown}
+
+    def request(self, number):
+        parts = [{"part": part, "command": json.loads(command), "reply": json.loads(reply)} for part, command, reply in self.of("request", number)]
+        return {"number": str(number), "parts": parts}
+
     # ---- Limits
 
     def in_force(self, pairing):
@@ -348,12 +393,26 @@ class Report:
         return response(404, refused(*self.refusal), UNKEPT) if self.refusal else response(200, self.text, UNKEPT)
 
 
+# One day, two days, whose edges duties have, and 62 days.
+DAYS = ("2025-06-20", "2025-06-20"), ("2025-06-10", "2025-06-11"), ("2025-06-01", "2025-08-01")
+
+
+def numbers(reading):
+    """The first and the last three numbers under which something is kept, and two under which nothing is."""
+    kept = sorted({number for number, *_ in reading.rows["request"]})
+    return sorted({1, 999, *kept[:1], *kept[-3:]})
+
+
 def reports(reading):
     """Each report of a book, and those of a member and a pairing that aren't there."""
     yield Report(("members",), "/json/reports/members", reading.members())
     yield Report(("pairings",), "/json/reports/pairings", reading.pairings())
     yield Report(("pairings", "--open"), "/json/reports/open", reading.pairings(is_open=True))
     yield Report(("exceedances",), "/json/exceedances", reading.exceedances())
+    for days in DAYS:
+        yield Report(("board", *days), f"/json/board/{'/'.join(days)}", reading.board(*days))
+    for number in numbers(reading):
+        yield Report(("request", str(number)), f"/json/requests/{number}", reading.request(number))
     crew = [who for who, *_ in reading.of("crew")]
     pairings = [pairing for (pairing,) in reading.of("pairing")]
     for pairing in pairings:
@@ -429,16 +488,16 @@ def examples():
 
 
 def the_examples_of_the_formats(room):
-    """They are of the book of examples/requests.jsonl, but for the exceedances, of which that book has none."""
+    """They are of the book of examples/requests.jsonl, but for the exceedances, of which that book has none, and the board."""
     book, exceeded = Book.made(room, HOME), Book.made(room, HOME)
     ran = rosterbook("do", book.file, "--lines", given=(TOP / "examples" / "requests.jsonl").read_text())
     bad = [] if ran.status == 0 else [f"examples/requests.jsonl: {ran}"]
     bad += carry_out(exceeded, CREW_AT_HOME + LATE)
     found = list(examples())
     kinds = {words[0] for words, _ in found}
-    bad += [] if kinds == {"roster", "pairing", "limits", "exceedances", "members", "pairings"} else [f"examples of {sorted(kinds)} alone"]
+    bad += [] if kinds == {"roster", "pairing", "limits", "exceedances", "members", "pairings", "board", "request"} else [f"examples of {sorted(kinds)} alone"]
     for (command, *ids), text in found:
-        file = exceeded.file if command == "exceedances" else book.file
+        file = exceeded.file if command in ("exceedances", "board") else book.file
         ran = rosterbook(command, file, *ids, "--json")
         bad += [] if ran == Ran(0, f"{text}\n", "") else [f"{command} {ids}:\nthe page: {text}\ngot:      {ran}"]
     return bad

@@ -4,8 +4,8 @@
     tests/reports.py [NAME..]
 
 A case is a few lines, which tests/office.py has, each of which has to be accepted, on a book of the captain C1 and the first
-officer F1; and what `roster`, `limits`, `pairing`, `exceedances`, `members` and `pairings` then print, by their words. No report
-may change a byte of the book's file, nor of what its log holds. What differs is printed on standard error. The last line is
+officer F1; and what `roster`, `limits`, `pairing`, `exceedances`, `members`, `pairings`, `board` and `request` then print, by their
+words. No report may change a byte of the book's file, nor of what its log holds. What differs is printed on standard error. The last line is
 'N passed, M failed', and the exit status 1 where M isn't 0.
 """
 
@@ -15,7 +15,7 @@ import tempfile
 from contextlib import closing
 from pathlib import Path
 
-from office import Book, Ran, build, compact, order, rosterbook, told
+from office import Book, Ran, build, compact, kept_text, order, rosterbook, schedule, told
 
 # A log with a frame has its header's 32 bytes, the frame's 24 and a page. One without is written anew where a book is opened.
 WITH_A_FRAME = 32 + 24 + 4096
@@ -118,6 +118,13 @@ CASES = {
         """,
         "pairings": "PAIRINGS 0",
         "pairings --open": "PAIRINGS 0",
+        "board 2000-01-01 2000-01-01": """
+            BOARD 2000-01-01 2000-01-01
+            ROSTER C1 captain Ada Ray
+            ROSTER F1 first officer Zoë Roy
+            OPEN 0
+        """,
+        "request 9223372036854775807": "REQUEST 9223372036854775807",
     }],
     "a_pairing_and_its_captain": [ONE_PAIRING, {
         "roster C1": """
@@ -373,6 +380,105 @@ CASES = {
         "roster F1": """
             ROSTER F1 first officer Zoë Roy
             2025-06-10T11:00Z 2025-06-14T16:00Z pairing P1/1 actual fdp 100:05 flight 99:05
+        """,
+    }],
+}  # fmt: skip
+
+# ---- The board of some days, and what is kept under a number.
+
+# Duties that end as 10 June begins or begin as 11 June ends, and others that are a minute longer, or lie over both days. P4 has a period
+# before them and one after them.
+AT_THE_EDGES = """
+    hire C2 captain: Bo Lind
+    train G1 9: 20:00-+1 00:00
+    train G2 10: 00:00-00:01
+    train G3 11: 23:59-+1 00:00
+    train G4 12: 00:00-01:00
+    outside X1 F1 9: 20:00 | 20:00-23:00 | +1 00:00
+    outside X2 F1 12: 00:00 | 00:00-01:00 | 02:00
+    outside X3 C9 9: 12:00 | 13:00-+4 13:00 | +4 14:00
+    plan P1 9: 12:00 | 13:00-14:00 | +1 00:00; 11: 23:59 | +1 01:00-+1 02:00 | +1 03:00; 13: 12:00 | 13:00-14:00 | 15:00
+    plan P2 9: 12:00 | 13:00-14:00 | +1 00:01
+    plan P3 9: 12:00 | 13:00-14:00 | +1 00:00
+    plan P4 9: 12:00 | 13:00-14:00 | +1 00:00; 12: 00:00 | 01:00-02:00 | 03:00
+    assign P1 C2
+"""
+
+BOARDS = {
+    "the_board_of_a_pairing_of_one_seat": [ONE_PAIRING, {
+        "board 2025-06-10 2025-06-10": """
+            BOARD 2025-06-10 2025-06-10
+            ROSTER C1 captain Ada Ray
+            2025-06-10T11:00Z 2025-06-10T20:00Z pairing P1/1 plan fdp 8:30 flight 7:30
+            ROSTER F1 first officer Zoë Roy
+            OPEN 1
+            P1 2025-06-10T11:00Z 2025-06-10T20:00Z plan C1 -
+        """,
+        "board 2025-06-11 2025-08-11": """
+            BOARD 2025-06-11 2025-08-11
+            ROSTER C1 captain Ada Ray
+            ROSTER F1 first officer Zoë Roy
+            OPEN 0
+        """,
+    }],
+    # P06 ends as 7 June begins; P13A has both seats, and P13B begins on 11 June.
+    "the_board_of_some_days_among_others": [A_LATE_PERIOD, {
+        "board 2025-06-07 2025-06-10": """
+            BOARD 2025-06-07 2025-06-10
+            ROSTER C1 captain Ada Ray
+            2025-06-07T12:00Z 2025-06-08T00:00Z pairing P07/1 plan fdp 12:00 flight 5:00
+            2025-06-08T12:00Z 2025-06-09T00:30Z pairing P08/1 plan fdp 12:30 flight 5:30
+            2025-06-10T11:00Z 2025-06-11T07:30Z pairing P13A/1 actual fdp 20:00 flight 8:00
+            ROSTER F1 first officer Zoë Roy
+            2025-06-10T11:00Z 2025-06-11T07:30Z pairing P13A/1 actual fdp 20:00 flight 8:00
+            OPEN 2
+            P07 2025-06-07T12:00Z 2025-06-08T00:00Z plan C1 -
+            P08 2025-06-08T12:00Z 2025-06-09T00:30Z plan C1 -
+        """,
+        "request 113": """
+            REQUEST 113
+            0 {"do":"actual","pairing":"P13A","period":1,"release":"2025-06-11T07:30Z","report":"2025-06-10T11:00Z","segments":[{"in":"2025-06-11T07:00Z","out":"2025-06-10T23:00Z"}]}
+            0 {"exceedances":[{"crew":"C1","section":"117.13(a)"},{"crew":"C1","section":"117.25(e)"},{"crew":"F1","section":"117.13(a)"}],"result":"accepted"}
+        """,
+        "request 11": "REQUEST 11",
+        "request 112": "REQUEST 112",
+        "request 114": "REQUEST 114",
+    }],
+    # Period 1 counts by the times at which it was flown, and period 2 has its number.
+    "the_board_of_periods_that_were_flown_in_the_other_order": [SWAPPED, {
+        "board 2025-06-10 2025-06-10": """
+            BOARD 2025-06-10 2025-06-10
+            ROSTER C1 captain Ada Ray
+            ROSTER F1 first officer Zoë Roy
+            OPEN 0
+        """,
+        "board 2025-06-11 2025-06-13": """
+            BOARD 2025-06-11 2025-06-13
+            ROSTER C1 captain Ada Ray
+            2025-06-12T11:00Z 2025-06-12T15:00Z pairing P3/2 plan fdp 3:30 flight 1:30
+            ROSTER F1 first officer Zoë Roy
+            2025-06-12T11:00Z 2025-06-12T15:00Z pairing P3/2 plan fdp 3:30 flight 1:30
+            OPEN 0
+        """,
+    }],
+    "the_board_of_duties_at_the_edges_of_its_days": ["""
+        base DEN: MST7MDT,M3.2.0,M11.1.0
+        hire C9 captain DEN: Lee Roy
+    """ + AT_THE_EDGES, {
+        "board 2025-06-10 2025-06-11": """
+            BOARD 2025-06-10 2025-06-11
+            ROSTER C1 captain Ada Ray
+            2025-06-10T00:00Z 2025-06-10T00:01Z ground G2 Simulator
+            2025-06-11T23:59Z 2025-06-12T00:00Z ground G3 Simulator
+            ROSTER C2 captain Bo Lind
+            2025-06-11T23:59Z 2025-06-12T03:00Z pairing P1/2 plan fdp 2:01 flight 1:00
+            ROSTER C9 captain Lee Roy
+            base DEN
+            2025-06-09T12:00Z 2025-06-13T14:00Z outside X3 fdp 97:00 flight 96:00
+            ROSTER F1 first officer Zoë Roy
+            OPEN 2
+            P1 2025-06-09T12:00Z 2025-06-13T15:00Z plan C2 -
+            P2 2025-06-09T12:00Z 2025-06-10T00:01Z plan - -
         """,
     }],
 }  # fmt: skip
@@ -833,7 +939,8 @@ def no_book_is_no_report(room):
         tables.execute("CREATE TABLE other (x)")
         tables.commit()
     of_ids = (["roster", "C1"], ["limits", "C1"], ["limits", "C1", "--with", "P1"], ["pairing", "P1"])
-    all_words = (*of_ids, ["exceedances"], ["members"], ["pairings"], ["pairings", "--open"])
+    of_days = ["board", "2025-06-01", "2025-06-30"]
+    all_words = (*of_ids, ["exceedances"], ["members"], ["pairings"], ["pairings", "--open"], of_days, ["request", "900"])
     for words in (*all_words, *([*it, "--json"] for it in all_words)):
         for name, wanted in (("none.db", "refused 40 NotABook\n"), ("other.db", "refused 40 NotABook\n")):
             ran = rosterbook(words[0], folder / name, *words[1:])
@@ -862,6 +969,7 @@ def a_log_stays_as_it_is(room):
         """), ""))  # fmt: skip
     given = compact({"number": 900, **order("release P1 C1")})
     reports = ["limits C1", "limits C1 --with P1", "pairing P1", "exceedances", "members", "pairings", "pairings --open"]
+    reports += ["board 2025-06-01 2025-06-30", "request 900"]
     for words in (*reports, *(f"{it} --json" for it in reports), "do --dry-run", "do --lines --dry-run"):
         command, *rest = words.split(" ")
         ran, is_same = shown(left, [command, left.file, *rest], given)
@@ -870,15 +978,33 @@ def a_log_stays_as_it_is(room):
     return bad + differs(left, ["roster", "C1"], Ran(0, "ROSTER C1 captain Ann Oh\n", ""))
 
 
+def parts_of_one_number(room):
+    """A command and the pairings of two schedules under number 70, of which the second has one that was refused, and others beside it."""
+    book = Book.made(room)
+    bad = carry_out(book, """
+        7 hire C1 captain: Ada Ray
+        70 hire F1 first-officer: Zoë "Zo" Roy
+        700 hire C2 captain: Bo Lind
+    """)
+    plans = [f"plan P{day} {day}: 11:00 | 12:00-13:00 | 13:30" for day in (10, 11, 12)]
+    bad += [] if book.import_schedule(70, schedule(plans[:1])) == Ran(0, "1 accepted\n", "") else ["no import"]
+    ran = book.import_schedule(70, schedule([*plans[:2], plans[0], plans[2]]))
+    bad += [] if ran == Ran(1, "1 accepted\n2 accepted\n3 refused 5 PairingExists\n4 accepted\n", "") else [f"an import: {ran}"]
+    commands = [(part, kept_text(order(line))) for part, line in ((0, 'hire F1 first-officer: Zoë "Zo" Roy'), *zip((1, 2, 4), plans))]
+    lines = [f"{part} {text}\n" for part, command in commands for text in (command, '{"exceedances":[],"result":"accepted"}')]
+    return bad + differs(book, ["request", "70"], Ran(0, "".join(["REQUEST 70\n", *lines]), ""))
+
+
 OTHERS = (
     two_hundred_periods, each_limit_is_reached_and_exceeded, whoever_is_not_there_is_refused, no_book_is_no_report, a_log_stays_as_it_is,
+    parts_of_one_number,
 )  # fmt: skip
 
 
 def main(names):
     if not build():
         return 3
-    cases = {name: (tried, *case) for name, case in (CASES | LIMITS).items()} | {case.__name__: (case,) for case in OTHERS}
+    cases = {name: (tried, *case) for name, case in (CASES | BOARDS | LIMITS).items()} | {case.__name__: (case,) for case in OTHERS}
     failed = 0
     with tempfile.TemporaryDirectory() as room:
         for name in names or cases:

@@ -17,15 +17,21 @@ use Rattle.state_rows.specs.declared.fault.StoreFault.TheVariants.{Store, Memory
 use Rattle.writing.specs.Beside.{KeepOthers}
 use Rattle.state_rows.specs.Outcomes.{CrashAddsOnly, CrashLeaves, StaysOpen}
 use Rattle.book.specs.Answered.{IsAnswered}
+use Rattle.book.specs.Calls.{IsAfterCalls}
 use Rattle.book.specs.Kept.{Ends, HasTablesOf, IsDurablyAt, IsClean, Kept, StillHasTables, is_store_fault, is_some_store_fault, result_of}
 use Rattle.book.specs.declared.answer.Answer.{Answer}
 use Rattle.book.proofs.CommandLists.{all_of, all_take, each_of, fold_append, replies_append, replies_take}
 use Rattle.book.proofs.Runs.{fold_more, one_honest}
 use Rattle.book.proofs.Sparing.{SameOrSpares, adds_then, spared_adds, spared_open, spared_then}
-use Rattle.asking.specs.Schedules.{AreAnswered, ArePartsAsked}
+use Rattle.asking.specs.Lines.{AreTaken, commands_in}
+use Rattle.asking.specs.Requests.{AreAnswered, ReadRequest}
+use Rattle.asking.specs.Schedules.{ArePartsAsked}
+use Rattle.asking.specs.declared.answers.AskFault.TheVariants as ask
 use Rattle.asking.specs.declared.answers.AskFault.TheVariants.{Book}
 use Rattle.asking.specs.declared.schedules.NotAllAsked.TheVariants.{Ask, Unheard}
-use Rattle.asking.proofs.Parts.{one_answered, taken_more}
+use Rattle.asking.proofs.CallsHonest.{LeavesHonest, calls_honest}
+use Rattle.asking.proofs.LinesTaken.{one_in_turn}
+use Rattle.asking.proofs.Parts.{taken_more}
 
 or_false : (b : Bool) → (b || false) ≡ b
 or_false true = refl
@@ -90,7 +96,7 @@ module _ {S : Type 0} (g : Ghosts S) where
       }
 
   chain_from : (start now new : Kept S) (asked more : List Asked) (answers others : List Answer)
-      → IsChain start now asked answers → AreAnswered g now more others new → IsChain start new (asked ++ more) (answers ++ others)
+      → IsChain start now asked answers → AreAnswered (IsAnswered g) now more others new → IsChain start new (asked ++ more) (answers ++ others)
   chain_from start now new asked [] answers [] was same =
       subst (λ l. IsChain start new l (answers ++ [])) (sym (append-nil asked))
       (subst (λ l. IsChain start new asked l) (sym (append-nil answers)) (subst (λ b. IsChain start b asked answers) (sym same) was))
@@ -101,7 +107,7 @@ module _ {S : Type 0} (g : Ghosts S) where
       subst (λ l. IsChain start new l (answers ++ x ∷ others)) (append_assoc asked (a ∷ []) more)
       (subst (λ l. IsChain start new ((asked ++ a ∷ []) ++ more) l) (append_assoc answers (x ∷ []) others) it)
 
-  chain : (old new : Kept S) (asked : List Asked) (answers : List Answer) → AreAnswered g old asked answers new → IsChain old new asked answers
+  chain : (old new : Kept S) (asked : List Asked) (answers : List Answer) → AreAnswered (IsAnswered g) old asked answers new → IsChain old new asked answers
   chain old new asked answers are = chain_from old old new [] asked [] answers (no_chain old) are
 
   -- ---- Commands up to a fault, if there was one
@@ -123,8 +129,15 @@ module _ {S : Type 0} (g : Ghosts S) where
     pub still_open : fault ≡ Some Memory → StaysOpen (state g old.held) (state g new.held)
 
   -- all were answered
-  all_answered : (old new : Kept S) (asked : List Asked) (answers : List Answer) → AreMade asked → IsChain old new asked answers → AreAskedUpTo old new asked answers None
-  all_answered old new asked answers made are = record {
+  all_honest : (old new : Kept S) (asked : List Asked) (answers : List Answer) → AreMade asked → IsChain old new asked answers → LeavesHonest g old new
+  all_honest old new asked answers made are s at honest = record {
+    crash = λ clean trees may.
+        let sound = (at.kept (are.disk clean)).sound in
+        (one_honest (state g new.held) (Fold s asked) (are.left s at).leaves (stays_honest keeps_sound keeps_honest s asked made sound honest)).crash clean trees may;
+  }
+
+  all_answered : (old new : Kept S) (asked : List Asked) (answers : List Answer) → LeavesHonest g old new → IsChain old new asked answers → AreAskedUpTo old new asked answers None
+  all_answered old new asked answers honest are = record {
     count = omega (arith, are.each);
     whole = λ _. are.each;
     stopped = λ no. absurd (cc);
@@ -135,11 +148,7 @@ module _ {S : Type 0} (g : Ghosts S) where
     outcome = are.left;
     shown = λ s at has _. are.tables s at has;
     still_shown = λ s at has no. absurd (cc);
-    honest = λ s at honest. record {
-      crash = λ clean trees may.
-          let sound = (at.kept (are.disk clean)).sound in
-          (one_honest (state g new.held) (Fold s asked) (are.left s at).leaves (stays_honest keeps_sound keeps_honest s asked made sound honest)).crash clean trees may;
-    };
+    honest = honest;
     others_left = spared_adds g old new are.spared;
     still_open = λ no. absurd (cc);
   }
@@ -157,25 +166,29 @@ module _ {S : Type 0} (g : Ghosts S) where
     ends Memory s at is = is.memory (Fold s (take (length answers) asked)) at refl
     ends Store s at is = rw (more s) (is.store (Fold s (take (length answers) asked)) at refl)
 
-    one_at_fault : AreMade asked → IsChain old now (take (length answers) asked) answers → IsAnswered g now new a (Err fault) → AreAskedUpTo old new asked answers (Some fault)
-    one_at_fault made was is = record {
+    fault_honest : AreMade asked → IsChain old now (take (length answers) asked) answers → IsAnswered g now new a (Err fault) → LeavesHonest g old new
+    fault_honest made was is s at honest = record {
+      crash = λ clean trees may.
+          let sound = (at.kept (was.disk (is.disk clean))).sound in
+          (is.honest (Fold s (take (length answers) asked)) (was.left s at) (stays_honest keeps_sound keeps_honest s (take (length answers) asked) (made_taken asked (length answers) made) sound honest)).crash clean trees may;
+    }
+
+    fault_shut : IsChain old now (take (length answers) asked) answers → IsAnswered g now new a (Err fault) → IsTrue old.failed → new ≡ old
+    fault_shut was is shut = (is.shut (subst IsTrue (sym was.failed) shut)).1 ∙ (was.shut shut).1
+
+    one_at_fault : LeavesHonest g old new → IsChain old now (take (length answers) asked) answers → IsAnswered g now new a (Err fault) → AreAskedUpTo old new asked answers (Some fault)
+    one_at_fault honest was is = record {
       count = omega (arith, within);
       whole = λ no. absurd (cc);
       stopped = λ _. within;
       failed = is.failed ∙ ap (λ b. b || is_store_fault {A = Answer} (Err fault)) was.failed ∙ ap (λ b. old.failed || b) (same_fault fault);
-      shut = λ shut.
-          let first = was.shut shut in
-          (first.0, (is.shut (subst IsTrue (sym was.failed) shut)).1 ∙ first.1);
+      shut = λ shut. ((was.shut shut).0, fault_shut was is shut);
       disk = λ clean. was.disk (is.disk clean);
       replies = λ s at clean. was.replies s at (is.disk clean) ∙ sym (replies_take s asked (length answers));
       outcome = λ s at. ends fault s (was.left s at) is;
       shown = λ s at has no. absurd (cc);
       still_shown = λ s at has _. is.still_shown (Fold s (take (length answers) asked)) (was.left s at) (was.tables s at has);
-      honest = λ s at honest. record {
-        crash = λ clean trees may.
-            let sound = (at.kept (was.disk (is.disk clean))).sound in
-            (is.honest (Fold s (take (length answers) asked)) (was.left s at) (stays_honest keeps_sound keeps_honest s (take (length answers) asked) (made_taken asked (length answers) made) sound honest)).crash clean trees may;
-      };
+      honest = honest;
       others_left = adds_then g old now new is.disk was.spared is.others_left;
       still_open = λ is_memory. spared_open g old now new is.disk was.faults was.spared (is.still_open (let same : fault ≡ Memory = cc in ap Err same));
     }
@@ -187,13 +200,15 @@ module _ {S : Type 0} (g : Ghosts S) where
     pub all_parts : (done : ⊤) (it : ArePartsAsked g hears old new listener listener' parts (Ok done)) → AreAskedUpTo old new parts it.answers None
     all_parts done it =
         let all : take (length it.answers) parts ≡ parts = take_all (length it.answers) parts (omega (arith, it.ends.0)) in
-        let are = subst (λ l. AreAnswered g old l it.answers it.now) all it.answered in
-        all_answered old new parts it.answers made (subst (λ b. IsChain old b parts it.answers) (sym it.ends.1) (chain old it.now parts it.answers are))
+        let are = subst (λ l. AreAnswered (IsAnswered g) old l it.answers it.now) all it.answered in
+        let are_new = subst (λ b. IsChain old b parts it.answers) (sym it.ends.1) (chain old it.now parts it.answers are) in
+        all_answered old new parts it.answers (all_honest old new parts it.answers made are_new) are_new
 
     -- the book met a fault at one
     pub parts_to_fault : (fault : StoreFault) (it : ArePartsAsked g hears old new listener listener' parts (Err (Ask (Book fault)))) → AreAskedUpTo old new parts it.answers (Some fault)
     parts_to_fault fault it =
-        one_at_fault old it.now new parts it.answers it.ends.0 fault it.ends.1 made (chain old it.now (take (length it.answers) parts) it.answers it.answered) it.ends.2
+        let was = chain old it.now (take (length it.answers) parts) it.answers it.answered in
+        one_at_fault old it.now new parts it.answers it.ends.0 fault it.ends.1 (fault_honest old it.now new parts it.answers it.ends.0 fault it.ends.1 made was it.ends.2) was it.ends.2
 
     -- the listener failed at one: those up to it were asked
     pub parts_heard : (fault : F) (it : ArePartsAsked g hears old new listener listener' parts (Err (Unheard fault)))
@@ -202,8 +217,36 @@ module _ {S : Type 0} (g : Ghosts S) where
     parts_heard fault it =
         let n = length it.answers in
         let taken : take (n + 1) parts ≡ take n parts ++ it.ends.0 ∷ [] = ap (λ k. take k parts) (add-one n) ∙ taken_more parts n it.ends.0 it.ends.1 in
-        let are = one_answered g old (take n parts) it.answers it.now new it.ends.0 it.ends.2 it.answered it.ends.3 in
-        let are_taken = subst (λ l. AreAnswered g old l (it.answers ++ it.ends.2 ∷ []) new) (sym taken) are in (
+        let are = one_in_turn (IsAnswered g) old (take n parts) it.answers it.now new it.ends.0 it.ends.2 it.answered it.ends.3 in
+        let are_taken = subst (λ l. AreAnswered (IsAnswered g) old l (it.answers ++ it.ends.2 ∷ []) new) (sym taken) are in (
           slice_get_within parts n it.ends.0 it.ends.1,
-          all_answered old new (take (n + 1) parts) (it.answers ++ it.ends.2 ∷ []) (made_taken parts (n + 1) made) (chain old new (take (n + 1) parts) (it.answers ++ it.ends.2 ∷ []) are_taken),
+          let chained = chain old new (take (n + 1) parts) (it.answers ++ it.ends.2 ∷ []) are_taken in
+              all_answered old new (take (n + 1) parts) (it.answers ++ it.ends.2 ∷ []) (all_honest old new (take (n + 1) parts) (it.answers ++ it.ends.2 ∷ []) (made_taken parts (n + 1) made) chained) chained,
         )
+
+  -- ---- The commands of lines
+
+  module _ (old new : Kept S) (calls : IsAfterCalls g old new) (requests : List ReadRequest) where
+    -- all were asked
+    pub all_lines : (text : _) (it : AreTaken (IsAnswered g) old new requests (Ok text)) → AreAskedUpTo old new (commands_in requests) it.answers None
+    all_lines text it =
+        let commands = commands_in requests in
+        let all : take (length it.answers) commands ≡ commands = take_all (length it.answers) commands (omega (arith, it.ends.0)) in
+        let are = subst (λ l. AreAnswered (IsAnswered g) old l it.answers it.now) all it.taken in
+        let are_new = subst (λ b. IsChain old b commands it.answers) (sym it.ends.1) (chain old it.now commands it.answers are) in
+        all_answered old new commands it.answers (calls_honest g old new calls (λ shut. (are_new.shut shut).1)) are_new
+
+    -- the book met a fault at one
+    pub lines_to_fault : (fault : StoreFault) (it : AreTaken (IsAnswered g) old new requests (Err (Book fault))) → AreAskedUpTo old new (commands_in requests) it.answers (Some fault)
+    lines_to_fault fault it =
+        let commands = commands_in requests in
+        let was = chain old it.now (take (length it.answers) commands) it.answers it.taken in
+        let honest = calls_honest g old new calls (fault_shut old it.now new commands it.answers it.ends.0 fault it.ends.1 was it.ends.2) in
+        one_at_fault old it.now new commands it.answers it.ends.0 fault it.ends.1 honest was it.ends.2
+
+    -- there was no memory after these
+    pub lines_untold : (it : AreTaken (IsAnswered g) old new requests (Err ask.Memory)) → AreAskedUpTo old new (take (length it.answers) (commands_in requests)) it.answers None
+    lines_untold it =
+        let asked = take (length it.answers) (commands_in requests) in
+        let are_new = subst (λ b. IsChain old b asked it.answers) (sym it.ends) (chain old it.now asked it.answers it.taken) in
+        all_answered old new asked it.answers (calls_honest g old new calls (λ shut. (are_new.shut shut).1)) are_new

@@ -21,7 +21,9 @@ use Rattle.book.specs.Importing.{Importing, part_of}
 use Rattle.book.specs.Kept.{Kept, result_of}
 use Rattle.book.specs.declared.answer.Answer.{Answer}
 use Rattle.book.proofs.CommandLists.{All, each_of}
-use Rattle.asking.specs.Schedules.{AreAnswered, ArePartsAsked, HasHeard}
+use Rattle.asking.proofs.LinesTaken.{one_in_turn}
+use Rattle.asking.specs.Requests.{AreAnswered}
+use Rattle.asking.specs.Schedules.{ArePartsAsked, HasHeard}
 use Rattle.asking.specs.declared.answers.AskFault.TheVariants.{Book}
 use Rattle.asking.specs.declared.schedules.NotAllAsked.TheVariants.{Ask, Unheard}
 
@@ -57,13 +59,6 @@ part_made parts n a made is =
 
 -- ---- One more at the end
 
-pub one_answered : {S : Type 0} (g : Ghosts S) (old : Kept S) (asked : List Asked) (answers : List Answer) (now next : Kept S) (a : Asked) (answer : Answer)
-    → AreAnswered g old asked answers now → IsAnswered g now next a (Ok answer) → AreAnswered g old (asked ++ a ∷ []) (answers ++ answer ∷ []) next
-one_answered g old [] [] now next a answer same is = (next, subst (λ b. IsAnswered g b next a (Ok answer)) same is, refl)
-one_answered g old [] (x ∷ answers) now next a answer none is = absurd none
-one_answered g old (b ∷ asked) [] now next a answer none is = absurd none
-one_answered g old (b ∷ asked) (x ∷ answers) now next a answer first is = (first.0, first.1, one_answered g first.0 asked answers now next a answer first.2 is)
-
 pub taken_more : {A : Type 0} (xs : List A) (n : ℕ) (x : A) → slice_get xs n ≡ Some x → take (suc n) xs ≡ take n xs ++ x ∷ []
 taken_more [] n x is = absurd (cc)
 taken_more (y ∷ xs) zero x is = ap (λ o. o ∷ []) (search is)
@@ -85,7 +80,7 @@ module _ {S L F : Type 0} (g : Ghosts S) (hears : L → L → ℕ → ReplyOrRef
     pub answers : List Answer
     pub each : part ≡ length answers + 1
     pub within : length answers ≤ length parts
-    pub answered : AreAnswered g old (take (length answers) parts) answers now
+    pub answered : AreAnswered (IsAnswered g) old (take (length answers) parts) answers now
     pub all_heard : HasHeard hears listener 1 answers heard
 
   pub none_yet : (old : Kept S) (listener : L) (parts : List Asked) → AreSoFar old listener parts 1 old listener
@@ -107,7 +102,7 @@ module _ {S L F : Type 0} (g : Ghosts S) (hears : L → L → ℕ → ReplyOrRef
           answers = was.answers ++ answer ∷ [];
           each = omega (arith, was.each, count);
           within = omega (arith, count, slice_get_within parts (length was.answers) a at);
-          answered = subst (λ l. AreAnswered g old l (was.answers ++ answer ∷ []) next) (sym taken) (one_answered g old (take (length was.answers) parts) was.answers now next a answer was.answered answered);
+          answered = subst (λ l. AreAnswered (IsAnswered g) old l (was.answers ++ answer ∷ []) next) (sym taken) (one_in_turn (IsAnswered g) old (take (length was.answers) parts) was.answers now next a answer was.answered answered);
           all_heard = one_heard listener 1 was.answers heard listening answer was.all_heard (subst (λ n. hears heard listening n (result_of answer) (Ok tt)) place hearing);
         }
 

@@ -1,5 +1,6 @@
 -- What the answer to a request is: its kind, and its text in JSON.
-use Rattle.std.specs.Prelude.{◌≡◌, ℕ, List, string_bytes, String, Result, Ok, Err}
+use Rattle.std.specs.Prelude.{◌≡◌, ℕ, List, [], ◌∷◌, ◌++◌, codes, string_bytes, String, Result, Ok}
+use Rattle.std.specs.Prelude.{Err, flat_map}
 use Rattle.std.specs.Global.{Global}
 use Rattle.values.specs.declared.memory_fault.MemoryFault.{MemoryFault}
 use Rattle.command.specs.declared.refusal.Refusal.{Refusal}
@@ -21,6 +22,11 @@ use Rattle.asking.specs.declared.answers.JsonAnswer.{JsonAnswer}
 abbrev pub answer_json : ReplyOrRefusal → List ℕ
 answer_json (Ok reply) = reply_text reply
 answer_json (Err refusal) = refusal_json_text refusal
+
+-- texts in turn, with a comma between
+abbrev pub with_commas : List (List ℕ) → List ℕ
+with_commas [] = []
+with_commas (first ∷ others) = first ++ flat_map (λ text. codes "," ++ text) others
 
 -- the kind of a refusal of the book: 19 comes whatever the book holds, and each other refusal
 -- conflicts with what the book holds

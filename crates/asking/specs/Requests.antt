@@ -1,5 +1,5 @@
 -- What becomes of a request: its command is asked of a book, and what the book answers is reported.
-use Rattle.std.specs.Prelude.{◌≡◌, ◌⊎◌, ℕ, List, Result, Ok, Err, IfOk, OnOk}
+use Rattle.std.specs.Prelude.{◌≡◌, ◌⊎◌, ℕ, List, [], ◌∷◌, Result, Ok, Err, IfOk, OnOk}
 use Rattle.sqlite_trees.specs.declared.store.Store.{Ghosts}
 use Rattle.command.specs.declared.instruction.Instruction.{Instruction}
 use Rattle.stored_json.specs.declared.fault.CodecFault.{CodecFault}
@@ -24,6 +24,16 @@ ReadRequest = Result (ℕ × Instruction) CodecFault
 -- the command of a request, under part 0 of its number
 abbrev pub asked_as : ℕ × Instruction → Asked
 asked_as (number, instruction) = (record { number = number; part = 0 }, instruction)
+
+-- `Takes old new asked result`: a book was asked this command, and gave this result.
+module _ {S : Type 0} (Takes : Kept S → Kept S → Asked → Result Answer StoreFault → Type 0) where
+  -- a book was asked these commands in turn, and gave these answers, one to each
+  abbrev pub AreAnswered : Kept S → List Asked → List Answer → Kept S → Type 0
+  AreAnswered old [] [] new = new ≡ old
+  AreAnswered old (asked ∷ more) (answer ∷ answers) new =
+      (next : Kept S) × Takes old next asked (Ok answer) × AreAnswered next more answers new
+  AreAnswered old [] (answer ∷ answers) new = ⊥
+  AreAnswered old (asked ∷ more) [] new = ⊥
 
 module _ {S : Type 0} (g : Ghosts S) (old new : Kept S) where
   -- a book was asked a command, and what it answered is reported

@@ -9,18 +9,10 @@ use Rattle.roster.specs.Folds.{Asked, ReplyOrRefusal, import}
 use Rattle.book.specs.Answered.{IsAnswered}
 use Rattle.book.specs.Kept.{Kept, result_of}
 use Rattle.book.specs.declared.answer.Answer.{Answer}
+use Rattle.asking.specs.Requests.{AreAnswered}
 use Rattle.asking.specs.declared.answers.AskFault.TheVariants.{Book, Memory}
 use Rattle.asking.specs.declared.schedules.NotAllAsked.{NotAllAsked}
 use Rattle.asking.specs.declared.schedules.NotAllAsked.TheVariants.{Unread, Ask, Unheard}
-
--- a book was asked these commands in turn, and gave these answers, one to each
-abbrev pub AreAnswered : {S : Type 0} → Ghosts S →
-    Kept S → List Asked → List Answer → Kept S → Type 0
-AreAnswered g old [] [] new = new ≡ old
-AreAnswered {S} g old (asked ∷ more) (answer ∷ answers) new =
-    (next : Kept S) × IsAnswered g old next asked (Ok answer) × AreAnswered g next more answers new
-AreAnswered g old [] (answer ∷ answers) new = ⊥
-AreAnswered g old (asked ∷ more) [] new = ⊥
 
 -- what a listener says of itself before and after it heard the answer to this part, or failed at it
 abbrev pub Hearing : Type 0 → Type 0 → Type 1
@@ -63,7 +55,7 @@ module _ {S L F : Type 0} (g : Ghosts S) (hears : Hearing L F) where
     pub answers : List Answer
     pub now : Kept S
     pub heard : L
-    pub answered : AreAnswered g old (take (length answers) parts) answers now
+    pub answered : AreAnswered (IsAnswered g) old (take (length answers) parts) answers now
     pub all_heard : HasHeard hears listener 1 answers heard
     pub ends : EndsAfter parts answers (now, heard) (new, listener') result
 

@@ -6,7 +6,7 @@ ghost use Rattle.asking.specs.Answers as spec;
 use book::{Answer, BookFault};
 use codec::{CodecFault, fault_to_json, refusal_to_json, reply_to_json};
 use command::Refusal;
-use std::alloc::Global;
+use std::alloc::{AllocError, Global};
 use values::MemoryFault;
 
 /// Of which kind an answer is.
@@ -36,6 +36,28 @@ pub enum AskFault {
     Book(BookFault),
     /// There is no memory beside the book (91): what is asked wasn't read, or it was answered and the answer has no text.
     Memory,
+}
+
+impl From<MemoryFault> for AskFault {
+    ghost use Rattle.std.specs.Prelude.{◌≡◌};
+    ghost use Rattle.asking.specs.declared.answers.AskFault.TheVariants.{Memory};
+
+    ghost from_gives = { λ _ fault. fault ≡ Memory };
+
+    fn from(_fault: MemoryFault) -> AskFault {
+        AskFault::Memory
+    }
+}
+
+impl From<AllocError> for AskFault {
+    ghost use Rattle.std.specs.Prelude.{◌≡◌};
+    ghost use Rattle.asking.specs.declared.answers.AskFault.TheVariants.{Memory};
+
+    ghost from_gives = { λ _ fault. fault ≡ Memory };
+
+    fn from(_error: AllocError) -> AskFault {
+        AskFault::Memory
+    }
 }
 
 /// Reports what a book answered.

@@ -12,10 +12,12 @@ use book::{Book, BookFault, Show};
 use duty::{CrewId, PairingId};
 use limits_report::limits_text;
 use report::{
-    ReportFault, exceedance_text, members_text, pairing_text, pairings_text, roster_text,
+    ReportFault, board_text, exceedance_text, members_text, pairing_text, pairings_text,
+    request_text, roster_text,
 };
 use report_json::{
-    exceedances_json, limits_json, members_json, pairing_json, pairings_json, roster_json,
+    board_json, exceedances_json, limits_json, members_json, pairing_json, pairings_json,
+    request_json, roster_json,
 };
 use request::{Form, Subject};
 use roster::Roster;
@@ -34,15 +36,16 @@ pub enum Shown {
     NoSuchPairing,
 }
 
-/// Asks a book for a member's roster, a member's limits, a pairing, the exceedances or a list, in a form. No table is changed.
+/// Asks a book for a member's roster, a member's limits, a pairing, the exceedances, a list, the board of some days or what is
+/// kept under a number, in a form. No table is changed.
 pub fn ask_report<S: Alter>(
     alloc: Global,
     book: &mut Book<S>,
-    subject: Subject<&str, &str>,
+    subject: &Subject<&str, &str>,
     form: Form,
 ) -> Result<Shown, AskFault>
     ensures asked { spec.IsReportAsked S.Store book.old book.new
-        (subject_copied subject.entry) form result }
+        (subject_copied subject.now) form result }
     ensures calls { IsAfterCalls S.Store book.old book.new }
 {
     let Ok(what) = shown_by(alloc, subject) else {
@@ -53,19 +56,21 @@ pub fn ask_report<S: Alter>(
 }
 
 /// Names what a book shows for a report.
-fn shown_by(alloc: Global, subject: Subject<&str, &str>) -> Result<Show, MemoryFault>
-    ensures { IfOk result (λ what. what ≡ subject_copied subject.entry) }
+fn shown_by(alloc: Global, subject: &Subject<&str, &str>) -> Result<Show, MemoryFault>
+    ensures { IfOk result (λ what. what ≡ subject_copied subject.now) }
 {
     Ok(match subject {
         Subject::Crew(id) => Show::Crew(CrewId::new(copy_of(alloc, id)?)),
         Subject::Limits { crew, with } => Show::Limits {
             crew: CrewId::new(copy_of(alloc, crew)?),
-            with: named_by(alloc, with)?,
+            with: named_by(alloc, *with)?,
         },
         Subject::Pairing(id) => Show::Pairing(PairingId::new(copy_of(alloc, id)?)),
         Subject::Exceedances => Show::Exceedances,
         Subject::Members => Show::Members,
-        Subject::Pairings(which) => Show::Pairings(which),
+        Subject::Pairings(which) => Show::Pairings(*which),
+        Subject::Board(days) => Show::Board(*days),
+        Subject::Request(number) => Show::Request(*number),
     })
 }
 
@@ -122,6 +127,8 @@ fn text_of(alloc: Global, roster: &Roster, what: &Show) -> Result<String, Report
         Show::Exceedances => exceedance_text(alloc, roster),
         Show::Members => as_report(members_text(alloc, roster)),
         Show::Pairings(which) => as_report(pairings_text(alloc, roster, *which)),
+        Show::Board(days) => as_report(board_text(alloc, roster, *days)),
+        Show::Request(number) => as_report(request_text(alloc, roster, *number)),
     }
 }
 
@@ -136,6 +143,8 @@ fn json_of(alloc: Global, roster: &Roster, what: &Show) -> Result<String, Report
         Show::Exceedances => as_report(exceedances_json(alloc, roster)),
         Show::Members => as_report(members_json(alloc, roster)),
         Show::Pairings(which) => as_report(pairings_json(alloc, roster, *which)),
+        Show::Board(days) => as_report(board_json(alloc, roster, *days)),
+        Show::Request(number) => as_report(request_json(alloc, roster, *number)),
     }
 }
 

@@ -92,6 +92,7 @@ module _ {S : Type 0} (g : Ghosts S) where
     one = λ old new asked result made is. is_one_call asked result made is;
     many = λ old new commands run made is. is_run_call commands run made is;
     report = λ old new result is. is_reading_call result is;
+    count = λ old new result is. is_reading_call result is;
     check = λ old new result is. is_reading_call result is;
   }
 

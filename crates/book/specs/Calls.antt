@@ -11,6 +11,7 @@ use Rattle.roster.specs.State.{State}
 use Rattle.state_rows.specs.declared.fault.StoreFault.{StoreFault}
 use Rattle.state_rows.specs.declared.fault.StoreFault.TheVariants.{Store}
 use Rattle.lookup.specs.Reads.{ChangesNothing}
+use Rattle.lookup.specs.declared.count.RequestCount.{RequestCount}
 use Rattle.book.specs.Answered.{IsAnswered}
 use Rattle.book.specs.Kept.{Ends, IsClean, IsDurablyAt, Kept}
 use Rattle.book.specs.Kept.{is_some_store_fault, is_store_fault, result_of}
@@ -41,7 +42,7 @@ abbrev pub call_for_many : List Asked → Run → Call
 call_for_many commands run =
     record { asked = commands; answers = map result_of run.answers.items; fault = run.fault }
 
--- the call that keeps nothing, as `Book::show` and `Book::check` answer it
+-- the call that keeps nothing, as `Book::show`, `Book::count` and `Book::check` answer it
 abbrev pub call_for_reading : {A : Type 0} → Result A StoreFault → Call
 call_for_reading result = record { asked = []; answers = []; fault = fault_of result }
 
@@ -73,15 +74,15 @@ module _ {S : Type 0} (g : Ghosts S) where
   IsAfterCalls old new = (calls : List Call) × AreCalls old calls new
 
   -- a book was only read: `failed`, `shut`, `unchanged` and `kept` say what these clauses of
-  -- `Book::show` and `Book::check` say
+  -- `Book::show`, `Book::count` and `Book::check` say
   pub record HasRead {A : Type 0} (old new : Kept S) (result : Result A StoreFault) : Type 0 where
     pub failed : new.failed ≡ (old.failed || is_store_fault result)
     pub shut : IsTrue old.failed → (result ≡ Err Store) × (new ≡ old)
     pub unchanged : ChangesNothing (state g old.held) (state g new.held)
     pub kept : (s : State) → IsDurablyAt g old s → IsDurablyAt g new s
 
-  -- what the contracts of `Book::ask` and `Import::next`, of `Book::run`, of `Book::show` and of
-  -- `Book::check` say of a book makes each of these a call
+  -- what the contracts of `Book::ask` and `Import::next`, of `Book::run`, of `Book::show`, of
+  -- `Book::count` and of `Book::check` say of a book makes each of these a call
   pub record AnswersAreCalls : Type 0 where
     pub one : (old new : Kept S) (asked : Asked) (result : Result Answer StoreFault) →
         IsMade asked.1 → IsAnswered g old new asked result →
@@ -90,6 +91,8 @@ module _ {S : Type 0} (g : Ghosts S) where
         AreMade commands → HasRun g old new commands run →
         IsCall old (call_for_many commands run) new
     pub report : (old new : Kept S) (result : Result State StoreFault) →
+        HasRead old new result → IsCall old (call_for_reading result) new
+    pub count : (old new : Kept S) (result : Result RequestCount StoreFault) →
         HasRead old new result → IsCall old (call_for_reading result) new
     pub check : (old new : Kept S) (result : Result Answer StoreFault) →
         HasRead old new result → IsCall old (call_for_reading result) new

@@ -13,6 +13,7 @@ ghost use Rattle.roster.specs.State.{State, empty};
 ghost use Rattle.roster.specs.Steps.{step_of};
 ghost use Rattle.entries.specs.Right.{IsKey};
 ghost use Rattle.loading.specs.Refusals.{tells};
+ghost use Rattle.lookup.specs.Count.{IsCount};
 ghost use Rattle.lookup.specs.Reads.{ChangesNothing, IsOpen};
 ghost use Rattle.writing.specs.Commits.{AreTablesMade, IsNotMade};
 ghost use Rattle.writing.specs.Making.{IsFree};
@@ -33,7 +34,7 @@ use roster::{Change, Roster, Verdict};
 use sqlite::{Alter, Connection};
 use std::alloc::Global;
 use std::marker::Model;
-use store::{CreateFault, LoadFault, Show, Store, StoreFault};
+use store::{CreateFault, LoadFault, RequestCount, Show, Store, StoreFault};
 use time117::Zone;
 use values::{MemoryFault, TryClone};
 
@@ -195,6 +196,37 @@ impl<S: Alter> Book<S> {
         let shown = self.store.read_shown(alloc, what);
         self.failed = is_of_store(&shown);
         shown
+    }
+
+    /// Reads how many requests are kept, and which number is free for the next. No command is read, and no table is changed.
+    /// After out of memory (91) the call may be made again; after a fault of the store (90) each later call answers 90.
+    pub fn count(&mut self, alloc: Global) -> Result<RequestCount, StoreFault>
+        // As of `show`.
+        ensures failed { self.new.failed ≡ (self.old.failed || is_store_fault result) }
+        ensures shut { IsTrue self.old.failed
+            → (result ≡ Err StoreFault.Store) × (self.new ≡ self.old) }
+        ensures unchanged { ChangesNothing (state S.Store self.old.held)
+            (state S.Store self.new.held) }
+        ensures some_left { CrashLeavesSome (state S.Store self.new.held) }
+        ensures caused { self.old.failed ≡ false → IfErr result
+            (IsCausedElsewhere (state S.Store self.old.held) (state S.Store self.new.held)) }
+
+        // The count, by the state that the tables mean.
+        ensures count { (s : State) → IsDurablyAt S.Store self.old s → IsClean S.Store self.new
+            → IfOk result (IsCount s) }
+
+        // The state stays: a crash leaves it, and the tables mean it.
+        ensures kept { (s : State) → IsDurablyAt S.Store self.old s
+            → IsDurablyAt S.Store self.new s }
+        ensures shown { (s : State) → IsDurablyAt S.Store self.old s
+            → HasTablesOf S.Store self.old s → OnOk result (HasTablesOf S.Store self.new s) }
+    {
+        if self.failed {
+            return Err(StoreFault::Store);
+        }
+        let count = self.store.count(alloc);
+        self.failed = is_of_store(&count);
+        count
     }
 
     /// Judges a command by the part of the state that it needs, and answers as [`Book::ask`] would now: one that is kept

@@ -8,7 +8,8 @@ use sqlite::Alter;
 
 impl<S: Alter> Book<S> {
     /// Does nothing. Its clause is a law: what the contracts of [`Book::ask`], [`Import::next`](crate::Import::next),
-    /// [`Book::run`], [`Book::show`] and [`Book::check`] say of a book makes each of them a call, of which a life is made.
+    /// [`Book::run`], [`Book::show`], [`Book::count`] and [`Book::check`] say of a book makes each of them a call, of which a
+    /// life is made.
     pub fn answers_are_calls()
         ensures { AnswersAreCalls S.Store }
     {}

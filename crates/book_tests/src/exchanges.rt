@@ -40,6 +40,8 @@ GET /exceedances HTTP/1.1|Host: x||
 HTTP/1.1 200 OK|Content-Type: text/plain; charset=utf-8|Content-Length: 14|Connection: close||EXCEEDANCES 0_
 GET /json/exceedances HTTP/1.1|Host: x||
 HTTP/1.1 200 OK|Content-Type: application/json|Content-Length: 19|Cache-Control: no-store|X-Content-Type-Options: nosniff|Cross-Origin-Resource-Policy: same-origin|Connection: close||{\"exceedances\":[]}_
+GET /json/count HTTP/1.1|Host: x||
+HTTP/1.1 200 OK|Content-Type: application/json|Content-Length: 27|Cache-Control: no-store|X-Content-Type-Options: nosniff|Cross-Origin-Resource-Policy: same-origin|Connection: close||{\"count\":\"4\",\"next\":\"502\"}_
 HEAD /crew/C1 HTTP/1.1|Host: x||
 HTTP/1.1 200 OK|Content-Type: text/plain; charset=utf-8|Content-Length: 101|Connection: close||
 GET /crew/c9 HTTP/1.1|Host: x||
@@ -56,6 +58,12 @@ POST /requests HTTP/1.1|Host: x|Content-Length: 87||{\"number\":4,\"do\":\"add-c
 HTTP/1.1 200 OK|Content-Type: application/json|Content-Length: 38|Connection: close||{\"exceedances\":[],\"result\":\"accepted\"}
 GET /crew/C5 HTTP/1.1|Host: x||
 HTTP/1.1 200 OK|Content-Type: text/plain; charset=utf-8|Content-Length: 35|Connection: close||ROSTER C5 captain Lee Roy_base DEN_
+POST /lines/checks HTTP/1.1|Host: x|Content-Length: 153||{\"number\":5,\"do\":\"add-crew\",\"crew\":\"C6\",\"seat\":\"captain\",\"name\":\"Lee Roy\"}__{}_{\"number\":6,\"do\":\"add-crew\",\"crew\":\"C6\",\"seat\":\"captain\",\"name\":\"Lee Roy\"}
+HTTP/1.1 200 OK|Content-Type: application/json|Content-Length: 159|Connection: close||{\"answers\":[{\"exceedances\":[],\"result\":\"accepted\"},{\"field\":\"number\",\"name\":\"BadJson\",\"refusal\":31,\"result\":\"refused\"},{\"exceedances\":[],\"result\":\"accepted\"}]}
+POST /lines HTTP/1.1|Host: x|Content-Length: 153||{\"number\":5,\"do\":\"add-crew\",\"crew\":\"C6\",\"seat\":\"captain\",\"name\":\"Lee Roy\"}__{}_{\"number\":6,\"do\":\"add-crew\",\"crew\":\"C6\",\"seat\":\"captain\",\"name\":\"Lee Roy\"}
+HTTP/1.1 200 OK|Content-Type: application/json|Content-Length: 173|Connection: close||{\"answers\":[{\"exceedances\":[],\"result\":\"accepted\"},{\"field\":\"number\",\"name\":\"BadJson\",\"refusal\":31,\"result\":\"refused\"},{\"name\":\"CrewExists\",\"refusal\":3,\"result\":\"refused\"}]}
+GET /crew/C6 HTTP/1.1|Host: x||
+HTTP/1.1 200 OK|Content-Type: text/plain; charset=utf-8|Content-Length: 26|Connection: close||ROSTER C6 captain Lee Roy_
 ";
 
 /// Which exchange of a row is tried, by its reader and its writer.

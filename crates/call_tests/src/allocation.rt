@@ -159,6 +159,21 @@ P2 2025-06-12T11:00Z 2025-06-12T20:00Z plan C1 -
 PAIRINGS 2
 P3 2025-06-11T12:00Z 2025-06-11T15:30Z plan - -
 P2 2025-06-12T11:00Z 2025-06-12T20:00Z plan C1 -
+BOARD 2025-06-11 2025-06-12
+ROSTER C1 captain Ada Ray
+2025-06-12T11:00Z 2025-06-12T20:00Z pairing P2/1 plan fdp 8:30 flight 7:30
+ROSTER C2 captain Bo Lind
+2025-06-10T11:00Z 2025-06-11T07:30Z pairing P1/1 actual fdp 20:00 flight 10:00
+ROSTER C5 captain Lee Roy
+base DEN
+ROSTER F1 first officer Zoë Roy
+2025-06-10T11:00Z 2025-06-11T07:30Z pairing P1/1 actual fdp 20:00 flight 10:00
+OPEN 2
+P3 2025-06-11T12:00Z 2025-06-11T15:30Z plan - -
+P2 2025-06-12T11:00Z 2025-06-12T20:00Z plan C1 -
+REQUEST 1
+0 {\"crew\":\"C1\",\"do\":\"add-crew\",\"name\":\"Ada Ray\",\"seat\":\"captain\"}
+0 {\"exceedances\":[],\"result\":\"accepted\"}
 ";
 
 #[test]
@@ -172,7 +187,7 @@ fn report(rt: HostRuntime) -> Result<(), Fail> {
 fn report_json(rt: HostRuntime) -> Result<(), Fail> {
     assert_eq!(rt;
         text_of(&rt, Part::ReportJson)?.as_str(),
-        "15 reports, 8598 bytes"
+        "17 reports, 11057 bytes\n{\"count\":\"2\",\"next\":\"1\"}\n{\"count\":\"2\",\"next\":null}\n"
     );
     Ok(())
 }

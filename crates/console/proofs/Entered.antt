@@ -21,7 +21,7 @@ use Rattle.console.proofs.Filled.{Filled, NoneMissing, check_none, checks_passed
 use Rattle.console.proofs.Filled.{given_found, has_default, has_rule, rows_filled, takes_one, wanted_given}
 use Rattle.console.proofs.FlagRead.{flag_there, is_flag_checked}
 use Rattle.console.proofs.NumberRead.{is_number_checked, number_there}
-use Rattle.console.specs.CommandLine.{Argument, a_number, a_text, command_line, flag, option_number, option_text}
+use Rattle.console.specs.CommandLine.{Argument, a_day, a_number, a_text, command_line, flag, option_number, option_text}
 use Rattle.console.specs.CommandLine.{some_texts, subcommand_table}
 use Rattle.console.specs.Arguments.{Has, HasArguments, HasEach, IsAmong}
 
@@ -30,6 +30,7 @@ abbrev fits_one : List Rule → Argument → Bool
 fits_one rules (a_text id) = has_rule (λ a. a.required) id rules
 fits_one rules (some_texts id) = has_rule (λ a. a.required) id rules
 fits_one rules (a_number most id) = has_rule (λ a. a.required) id rules && list_all (is_number_checked most id) rules
+fits_one rules (a_day id) = has_rule (λ a. a.required) id rules
 fits_one rules (option_number most default id) = has_rule has_default id rules && list_all (is_number_checked most id) rules
 fits_one rules (option_text id) = true
 fits_one rules (flag id) = list_all (is_flag_checked id) rules
@@ -58,6 +59,8 @@ module _ (s : Shape) (words : List Text) (none : level_fault s [] nothing_held w
       let p = both (has_rule (λ a. a.required) id s.rules) _ e in
       number_there most id s words p.1 none
       (found_first id rows filled (given_found id rows (wanted_given id s.rules rows p.0 there)))
+  has_one (a_day id) filled there e =
+      found_first id rows filled (given_found id rows (wanted_given id s.rules rows e there))
   has_one (option_number most default id) filled there e =
       let p = both (has_rule has_default id s.rules) _ e in
       number_there most id s words p.1 none (found_first id rows filled

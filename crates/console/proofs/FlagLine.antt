@@ -54,6 +54,13 @@ module _ (s : Shape) (reads : list_all reads_flags s.rules ≡ true) where
     pub words_pass : faults s start words ≡ [] → walk_fault s [] start (words ++ rest) ≡ walk_fault s [] (at_words s words) rest
     words_pass none = passed_to start words rest plain begins none
 
+  -- what the line comes to, by what the rest of it comes to and where that ends
+  pub level_of_rest : (words rest : List Text) → list_all is_plain words ≡ true → faults s start words ≡ []
+      → level_fault s [] nothing_held (words ++ rest) false []
+      ≡ fault_at s (walk_fault s [] (at_words s words) rest) (fold (walked s.rules []) (at_words s words) rest).held
+  level_of_rest words rest plain none =
+      level_is s (words ++ rest) _ _ (words_pass words rest plain none) (words_walked words rest plain)
+
 -- After these words and flags the line of the subcommand of this name met no fault, and these values are found.
 pub record Reads (name : Text) (words flags : List Text) (values : List (Option Value)) : Type 0 where
   pub words_fault : faults (leaf name) start words ≡ []

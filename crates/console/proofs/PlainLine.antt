@@ -19,7 +19,7 @@ use Rattle.clap.specs.declared.error.Error.{Error}
 use Rattle.clap.specs.declared.error.kind.ErrorKind.{ErrorKind}
 use Rattle.clap.specs.declared.error.kind.ErrorKind.TheVariants.{DisplayHelp, InvalidSubcommand, OutOfMemory}
 use Rattle.console.proofs.PlainWords.{defaults_are, end_of, plain_fault_of, plain_level, plain_rows, reads_flags}
-use Rattle.console.specs.CommandLine.{IsActionOf, Value, arguments_of, call_of, command_line, value_of}
+use Rattle.console.specs.CommandLine.{IsActionOf, Value, arguments_of, call_of, command_line, days_fault, line_fault, value_of}
 use Rattle.console.specs.Plain.{is_plain}
 use Rattle.console.specs.declared.actions.Action.{Action}
 
@@ -155,52 +155,74 @@ stated_values a name rows values states is =
 
 module _ (read : Result Action Error) (words : List Text)
     (ok : IfOk read (λ a. IsSomeAnd (subcommand_of command_line words) (IsActionOf a)))
-    (fails : FailsBy (fault_of command_line words) read) (name : Text) (given : List Text)
+    (fails : FailsBy (line_fault words) read) (name : Text) (given : List Text)
     (is : words ≡ name ∷ given) (known : is_known name ≡ true) where
   is_entered : Enters top name (leaf name)
   is_entered = known_enters name known
 
+  -- the rows of the line's subcommand
+  abbrev given_rows : List Row
+  given_rows = rows_after (leaf name).rules [] given
+
+  -- the fault of a line in which `clap` finds none is that of its days
+  days_alone : level_fault (leaf name) [] nothing_held given false [] ≡ []
+      → line_fault words ≡ days_fault (Some (name, given_rows))
+  days_alone passes =
+      ap line_fault is
+      ∙ (ap (λ (k : Kinds). or_else k (days_fault (subcommand_of command_line (name ∷ given))))
+      (line_passes name is_entered given passes)
+      ∙ ap days_fault (line_stated name is_entered given))
+
   -- it reads a line that meets no fault as what its subcommand found
-  pub line_read : (values : List Value) → level_fault (leaf name) [] nothing_held given false [] ≡ []
+  pub line_read : (values : List Value) → days_fault (Some (name, given_rows)) ≡ []
+      → level_fault (leaf name) [] nothing_held given false [] ≡ []
       → found name (rows_after (leaf name).rules [] given) ≡ map (λ v. Some v) values
       → MatchResult read (λ a. call_of a ≡ (name, values)) (λ e. kind_of e ≡ OutOfMemory)
-  line_read values passes has = go read ok fails
+  line_read values days passes has = go read ok fails
     where
       go : (r : Result Action Error) → IfOk r (λ a. IsSomeAnd (subcommand_of command_line words) (IsActionOf a))
-          → FailsBy (fault_of command_line words) r
+          → FailsBy (line_fault words) r
           → MatchResult r (λ a. call_of a ≡ (name, values)) (λ e. kind_of e ≡ OutOfMemory)
       go (Ok a) states none =
           stated_values a name _ values (subst (λ (o : Option (Text × List Row)). IsSomeAnd o (IsActionOf a))
           (ap (subcommand_of command_line) is ∙ line_stated name is_entered given) states) has
       go (Err e) states kinds =
-          let none : HasKind [] e = subst (λ (k : Kinds). HasKind k e)
-          (ap (fault_of command_line) is ∙ line_passes name is_entered given passes) kinds in
+          let none : HasKind [] e = subst (λ (k : Kinds). HasKind k e) (days_alone passes ∙ days) kinds in
           elim none [ inl memory ↦ memory | inr bad ↦ absurd bad ]
 
   -- and refuses one with a fault by its kind
-  pub line_refused : (k : ErrorKind) → level_fault (leaf name) [] nothing_held given false [] ≡ k ∷ []
-      → IsErrAnd read (HasKind (k ∷ []))
-  line_refused k refused = go read fails
+  refused_by : (k : ErrorKind) → line_fault words ≡ k ∷ [] → IsErrAnd read (HasKind (k ∷ []))
+  refused_by k faults = go read fails
     where
-      faults : fault_of command_line words ≡ k ∷ []
-      faults = ap (fault_of command_line) is ∙ line_fails name is_entered given k refused
-
-      go : (r : Result Action Error) → FailsBy (fault_of command_line words) r → IsErrAnd r (HasKind (k ∷ []))
+      go : (r : Result Action Error) → FailsBy (line_fault words) r → IsErrAnd r (HasKind (k ∷ []))
       go (Ok a) none =
           let both : k ∷ [] ≡ [] = sym faults ∙ none in
           let bad : ⊥ = cc in
           absurd bad
       go (Err e) kinds = subst (λ (x : Kinds). HasKind x e) faults kinds
 
+  pub line_refused : (k : ErrorKind) → level_fault (leaf name) [] nothing_held given false [] ≡ k ∷ []
+      → IsErrAnd read (HasKind (k ∷ []))
+  line_refused k refused =
+      refused_by k (ap line_fault is
+      ∙ ap (λ (x : Kinds). or_else x (days_fault (subcommand_of command_line (name ∷ given))))
+      (line_fails name is_entered given k refused))
+
+  -- also where only its days have one
+  pub days_refused : (k : ErrorKind) → level_fault (leaf name) [] nothing_held given false [] ≡ []
+      → days_fault (Some (name, given_rows)) ≡ k ∷ [] → IsErrAnd read (HasKind (k ∷ []))
+  days_refused k passes refused = refused_by k (days_alone passes ∙ refused)
+
   flags : list_all reads_flags (leaf name).rules ≡ true
   flags = (both (bytes_eq (leaf name).name name) _ (both _ _ known).1).1
 
   -- it reads a line of plain words as what its subcommand finds at their places
-  pub plain_read : (values : List Value) → list_all is_plain given ≡ true → plain_fault_of (leaf name) given ≡ []
+  pub plain_read : (values : List Value) → days_fault (Some (name, given_rows)) ≡ []
+      → list_all is_plain given ≡ true → plain_fault_of (leaf name) given ≡ []
       → found name (finished (leaf name).rules (end_of (leaf name) given)) ≡ map (λ v. Some v) values
       → MatchResult read (λ a. call_of a ≡ (name, values)) (λ e. kind_of e ≡ OutOfMemory)
-  plain_read values plain passes has =
-      line_read values (plain_level (leaf name) flags given plain ∙ passes)
+  plain_read values days plain passes has =
+      line_read values days (plain_level (leaf name) flags given plain ∙ passes)
       (ap (found name) (plain_rows (leaf name) flags given plain) ∙ has)
 
   -- and refuses one with a fault by its kind

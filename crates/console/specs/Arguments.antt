@@ -1,10 +1,10 @@
 -- What `clap` found of a line that it took: the readers of the matches rest on this.
 use Rattle.std.specs.Prelude.{◌≡◌, ◌⊎◌, ◌||◌, ℕ, Bool, List, [], ◌∷◌, Option, Some, None, codes}
-use Rattle.std.specs.Prelude.{is_some, true}
+use Rattle.std.specs.Prelude.{is_some, true, false}
 use Rattle.std.specs.Option.{option_map_or}
 use Rattle.std.specs.Str.{bytes_eq}
 use Rattle.clap.specs.Words.{Row, Text, all_of, first_of, one_of}
-use Rattle.console.specs.CommandLine.{Argument, a_number, a_text, arguments_of, flag, number_found}
+use Rattle.console.specs.CommandLine.{Argument, a_day, a_number, a_text, arguments_of, flag, number_found}
 use Rattle.console.specs.CommandLine.{option_number, option_text, some_texts, subcommand_table}
 
 -- The argument has a whole number from 1 to `most`, which is read as it was written.
@@ -26,6 +26,7 @@ abbrev pub Has : List Row → Argument → Type 0
 Has rows (a_text id) = is_some (first_of id rows) ≡ true
 Has rows (some_texts id) = is_some (all_of id rows) ≡ true
 Has rows (a_number most id) = HasWholeNumber most id rows
+Has rows (a_day id) = is_some (first_of id rows) ≡ true
 Has rows (option_number most default id) = HasWholeNumber most id rows
 Has rows (option_text id) = Unit {0}
 Has rows (flag id) = HasFlag id rows
@@ -48,3 +49,8 @@ IsAmong met (row ∷ rest) = ((met.0 ≡ row.0) × HasEach met.1 row.1) ⊎ IsAm
 abbrev pub HasArguments : Option (Text × List Row) → Type 0
 HasArguments None = ⊥
 HasArguments (Some met) = IsAmong met subcommand_table
+
+-- The subcommand is one of the program's subcommands, with its arguments, and isn't `board`.
+pub record IsNoBoard (met : Text × List Row) : Type 0 where
+  pub among : IsAmong met subcommand_table
+  pub no_board : bytes_eq met.0 (codes "board") ≡ false

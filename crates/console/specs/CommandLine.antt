@@ -8,13 +8,17 @@ use Rattle.std.specs.Str.{bytes_eq}
 use Rattle.std.specs.Str.Parse.{digits_value, without_leading_plus}
 use Rattle.clap.specs.Words.{App, Row, Rule, Text, all_of, app_of, first_of, new_app, new_rule}
 use Rattle.clap.specs.Words.{rule_of, with_rule, with_subcommand}
-use Rattle.clap.specs.Simple.{on_top}
+use Rattle.clap.specs.Simple.{on_top, subcommand_of}
 use Rattle.clap.specs.ValueTests.{is_unsigned_in}
 use Rattle.clap.specs.declared.builder.action.ArgAction.TheVariants.{Append, SetTrue}
 use Rattle.clap.specs.declared.builder.arg.Arg.{Arg}
 use Rattle.clap.specs.declared.builder.command.Command.{Command}
 use Rattle.clap.specs.declared.builder.command.Command.TheViews.{out-Command}
 use Rattle.clap.specs.declared.builder.value_parser.ValueParser.TheVariants.{Unsigned}
+use Rattle.clap.specs.declared.error.kind.ErrorKind.TheVariants.{ValueValidation}
+use Rattle.clap.specs.Faults.{fault_of}
+use Rattle.clap.specs.Kinds.{Kinds, or_else}
+use Rattle.request.specs.Days.{Days, day_begin, days_from}
 use Rattle.request.specs.Subjects.{subject_bytes}
 use Rattle.request.specs.declared.form.Form.{Form}
 use Rattle.request.specs.declared.form.Form.TheVariants as form
@@ -22,7 +26,8 @@ use Rattle.request.specs.declared.subject.Listed.{Listed}
 use Rattle.request.specs.declared.subject.Listed.TheVariants.{All, Open}
 use Rattle.request.specs.declared.subject.Subject.{Subject}
 use Rattle.request.specs.declared.subject.Subject.TheVariants.{Crew, Limits, Pairing, Exceedances}
-use Rattle.request.specs.declared.subject.Subject.TheVariants.{Members, Pairings}
+use Rattle.request.specs.declared.subject.Subject.TheVariants.{Members, Pairings, Board}
+use Rattle.request.specs.declared.subject.Subject.TheVariants.{Request}
 use Rattle.console.specs.declared.actions.Action.{Action}
 use Rattle.console.specs.declared.actions.Action.TheVariants.{Duty, Init, Do, Import, Report, Serve}
 
@@ -46,6 +51,8 @@ pub data Argument : Type 0 where
   some_texts : Text → Argument
   -- a whole number from 1 to this one, by its place
   a_number : ℕ → Text → Argument
+  -- a day, by its place
+  a_day : Text → Argument
   -- `--NAME N`, a whole number from 1 to this one, which is read of the text here if it is left out
   option_number : ℕ → Text → Text → Argument
   -- `--NAME TEXT`, a text, which may be left out
@@ -77,6 +84,14 @@ subcommand_table =
     ∷ (codes "exceedances", a_text (codes "file") ∷ json_flag ∷ [])
     ∷ (codes "members", a_text (codes "file") ∷ json_flag ∷ [])
     ∷ (codes "pairings", a_text (codes "file") ∷ flag (codes "open") ∷ json_flag ∷ [])
+    ∷ (
+      codes "board",
+      a_text (codes "file") ∷ a_day (codes "from") ∷ a_day (codes "to") ∷ json_flag ∷ [],
+    )
+    ∷ (
+      codes "request",
+      a_text (codes "file") ∷ a_number last_number (codes "number") ∷ json_flag ∷ [],
+    )
     ∷ (codes "serve", a_text (codes "file") ∷ a_number last_port (codes "port") ∷ connections ∷ [])
     ∷ []
 
@@ -119,6 +134,7 @@ abbrev pub rule : Argument → Rule
 rule (a_text id) = wanted id
 rule (some_texts id) = wanted_each id
 rule (a_number most id) = wanted_number most id
+rule (a_day id) = wanted id
 rule (option_number most default id) = optional_number most default id
 rule (option_text id) = optional id
 rule (flag id) = optional_flag id
@@ -175,6 +191,7 @@ pub data Value : Type 0 where
   one : Text → Value
   several : List Text → Value
   whole : ℕ → Value
+  day : ℕ → Value
   maybe : Option Text → Value
   given : Bool → Value
 
@@ -192,6 +209,14 @@ request_number = number_up_to last_number
 abbrev pub number_found : ℕ → Text → List Row → Option ℕ
 number_found most id rows = option_and_then (number_up_to most) (first_of id rows)
 
+-- the day that was found for the argument, by its first minute
+abbrev pub day_found : Text → List Row → Option ℕ
+day_found id rows = option_and_then day_begin (first_of id rows)
+
+-- the days that were found for the board
+abbrev pub days_found : List Row → Option Days
+days_found rows = days_from (day_found (codes "from") rows) (day_found (codes "to") rows)
+
 -- whether a flag was given: `true` was found for the flag, and not its default `false`
 abbrev pub is_on : Text → List Row → Bool
 is_on id rows = option_map_or (λ text. bytes_eq text (codes "true")) (first_of id rows) false
@@ -201,6 +226,7 @@ abbrev pub value_of : List Row → Argument → Option Value
 value_of rows (a_text id) = option_map one (first_of id rows)
 value_of rows (some_texts id) = option_map several (all_of id rows)
 value_of rows (a_number most id) = option_map whole (number_found most id rows)
+value_of rows (a_day id) = option_map day (day_found id rows)
 value_of rows (option_number most default id) = option_map whole (number_found most id rows)
 value_of rows (option_text id) = Some (maybe (first_of id rows))
 value_of rows (flag id) = Some (given (is_on id rows))
@@ -229,6 +255,10 @@ call_of_report file Exceedances in_form =
 call_of_report file Members in_form = (codes "members", one file ∷ given (is_json in_form) ∷ [])
 call_of_report file (Pairings which) in_form =
     (codes "pairings", one file ∷ given (is_only_open which) ∷ given (is_json in_form) ∷ [])
+call_of_report file (Board days) in_form =
+    (codes "board", one file ∷ day days.first ∷ day days.last ∷ given (is_json in_form) ∷ [])
+call_of_report file (Request number) in_form =
+    (codes "request", one file ∷ whole number ∷ given (is_json in_form) ∷ [])
 
 -- the subcommand of an action, and what is given for each of its arguments
 abbrev pub call_of : Action → Text × List Value
@@ -250,3 +280,21 @@ call_of (Serve file port count) =
 abbrev pub IsActionOf : Action → Text × List Row → Type 0
 IsActionOf a met = (met.0 ≡ (call_of a).0)
     × (map (value_of met.1) (arguments_of met.0) ≡ map (λ v. Some v) (call_of a).1)
+
+-- ---- what `clap` doesn't look at
+
+-- the fault of a board whose days aren't days, are more than 62, or end before they begin
+abbrev pub board_fault : Option Days → Kinds
+board_fault None = ValueValidation ∷ []
+board_fault (Some days) = []
+
+-- the fault of the days that were found, where the subcommand is `board`
+abbrev pub days_fault : Option (Text × List Row) → Kinds
+days_fault None = []
+days_fault (Some met) =
+    if bytes_eq met.0 (codes "board") then board_fault (days_found met.1) else []
+
+-- the fault of a line: what `clap` finds of it, or else that of its days
+abbrev pub line_fault : List Text → Kinds
+line_fault words =
+    or_else (fault_of command_line words) (days_fault (subcommand_of command_line words))

@@ -90,6 +90,14 @@ pairings_flags which form = word_if (is_only_open which) (codes "--open") ++ for
 abbrev pub pairings_words : Text → Listed → Form → List Text
 pairings_words file which form = codes "pairings" ∷ file ∷ pairings_flags which form
 
+-- the words of `board FILE FROM TO`, and then `--json`, if it is asked for in JSON
+abbrev pub board_words : Text → Text → Text → Form → List Text
+board_words file from to form = codes "board" ∷ file ∷ from ∷ to ∷ form_words form
+
+-- the words of `request FILE NUMBER`, and then `--json`, if it is asked for in JSON
+abbrev pub request_words : Text → Text → Form → List Text
+request_words file number form = codes "request" ∷ file ∷ number ∷ form_words form
+
 -- the action is a report from this file on exactly this subject, in exactly this form
 abbrev pub IsReport : Text → Subject Text Text → Form → Action → Type 0
 IsReport file subject form a = call_of a ≡ call_of_report file subject form

@@ -37,8 +37,8 @@ pub enum Action {
         /// The number of the request that the pairings are parts of.
         number: RequestNumber,
     },
-    /// `roster FILE CREW`, `pairing FILE PAIRING`, `limits FILE CREW --with PAIRING`, `exceedances FILE`, `members FILE` or
-    /// `pairings FILE --open`, each also with `--json`: print a report.
+    /// `roster FILE CREW`, `pairing FILE PAIRING`, `limits FILE CREW --with PAIRING`, `exceedances FILE`, `members FILE`,
+    /// `pairings FILE --open`, `board FILE FROM TO` or `request FILE NUMBER`, each also with `--json`: print a report.
     Report {
         /// The path of the book's file.
         file: String,

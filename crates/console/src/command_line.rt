@@ -8,20 +8,22 @@ ghost use Rattle.clap.specs.Walk.{Text, texts};
 ghost use Rattle.clap.specs.Words.{FailsBy, HasKind, all_of, fault_of, first_of, found_of, kind_of, rows_of};
 ghost use Rattle.clap.specs.Words.{rule_of, subcommand_of, subcommand_rows_of};
 ghost use Rattle.clap.specs.declared.error.kind.ErrorKind.TheVariants.{OutOfMemory, ValueValidation};
-ghost use Rattle.console.specs.Arguments.{HasAll, HasArguments, HasFlag, HasWholeNumber};
-ghost use Rattle.console.specs.CommandLine.{AreArguments, AreSubcommands, IsCommandOfApp, IsActionOf, IsFollowedBy, arguments_of, bare, command_line};
+ghost use Rattle.console.specs.Arguments.{IsNoBoard, HasAll, HasArguments, HasFlag, HasWholeNumber};
+ghost use Rattle.console.specs.CommandLine.{AreArguments, AreSubcommands, IsCommandOfApp, IsActionOf, IsFollowedBy, arguments_of, bare, board_fault, command_line, days_fault, days_found, line_fault};
 ghost use Rattle.console.specs.CommandLine.{connections, last_number, last_port, is_json, is_on, is_only_open, most_connections, number_found};
 ghost use Rattle.console.specs.CommandLine.{number_up_to, optional, optional_flag, request_number, rule, subcommand, subcommand_table, wanted, wanted_number};
 ghost use Rattle.console.specs.Plain.{IsDo, IsDuty, IsImport, IsInit, IsReport, IsServe};
-ghost use Rattle.console.specs.Plain.{asked_connections, do_words, duty_words, exceedances_words, import_words, init_words};
-ghost use Rattle.console.specs.Plain.{is_plain, limits_words, members_words, pairing_words, pairings_words, roster_words, serve_words};
+ghost use Rattle.console.specs.Plain.{asked_connections, board_words, do_words, duty_words, exceedances_words, import_words, init_words};
+ghost use Rattle.console.specs.Plain.{is_plain, limits_words, members_words, pairing_words, pairings_words, request_words, roster_words, serve_words};
+ghost use Rattle.request.specs.Days.{Days, days_read};
 ghost use Rattle.request.specs.declared.form.Form.{Form};
 ghost use Rattle.request.specs.declared.subject.Listed.{Listed};
 ghost use Rattle.request.specs.declared.subject.Subject.TheVariants as of;
 
 use crate::actions::Action;
+use clap::error::ErrorKind;
 use clap::{Arg, ArgAction, ArgMatches, Command, Error, value_parser};
-use request::{Form, Listed, RequestNumber, Subject};
+use request::{Days, Form, Listed, RequestNumber, Subject};
 use std::alloc::{AllocError, Global};
 
 const ARGUMENTS: &str = "\
@@ -30,6 +32,7 @@ Arguments of the commands:
   ZONE     time zone of the base, a POSIX rule such as EST5EDT,M3.2.0,M11.1.0
   NUMBER   number of the request, 1 to 9223372036854775807
   PORT     port of 127.0.0.1, 1 to 65535
+  FROM, TO first and last day by UTC, such as 2025-06-01, at most 62 days
   CREW     id of a crew member, such as C1
   PAIRING  id of a pairing, such as B101
   REPORT   report, a UTC instant such as 2025-06-10T15:59Z
@@ -211,6 +214,32 @@ order of the ids.
 Exit status: 0 done, 2 a mistake in the command line, 3 there is no book in the
 file, or the file, memory or the output fails";
 
+const BOARD_EXAMPLE: &str = "\
+Example:
+  rosterbook board roster.db 2025-06-01 2025-06-30
+
+Prints the roster of each member, in the order of the ids, with the duties that
+have a minute in these days, and then the pairings with a free seat that do.
+Days and times are UTC. At most 62 days are shown.
+
+With --json it is one object of JSON, in which each period has the sections of
+14 CFR Part 117 for which an exceedance is recorded.
+
+Exit status: 0 done, 2 a mistake in the command line, 3 there is no book in the
+file, or the file, memory or the output fails";
+
+const REQUEST_EXAMPLE: &str = "\
+Example:
+  rosterbook request roster.db 7
+
+Prints what is kept under the number of a request: of each part the command and
+the reply, in JSON. A single command has part 0, the pairings of an import have
+the parts 1, 2, .. Nothing is kept of what was refused, or of a number that
+wasn't used. With --json it is one object of JSON.
+
+Exit status: 0 done, 2 a mistake in the command line, 3 there is no book in the
+file, or the file, memory or the output fails";
+
 const SERVE_EXAMPLE: &str = "\
 Example:
   rosterbook serve roster.db 8117 --connections 2 &
@@ -233,6 +262,20 @@ const FILE_HELP: &str = "File of the book";
 const NUMBER_HELP: &str = "\
 Number of the request whose parts the pairings are,
 a whole number from 1 to 9223372036854775807";
+
+const KEPT_HELP: &str = "\
+Number of the request,
+a whole number from 1 to 9223372036854775807";
+
+const FROM_HELP: &str = "First day by UTC, YYYY-MM-DD, such as 2025-06-01";
+
+const TO_HELP: &str = "\
+Last day by UTC, such as 2025-06-30,
+at most 61 days after the first";
+
+const NO_DAYS: &str = "\
+FROM and TO must be days such as 2025-06-01 and 2025-06-30,
+of the years 2000 to 2099, TO not before FROM, at most 62 days";
 
 const CREW_HELP: &str = "Id of the crew member";
 
@@ -280,7 +323,7 @@ pub fn action(alloc: Global, words: &[&str]) -> Result<Action, Error>
     // By the definition of the command line: what is asked for, or the mistake.
     ensures ok { IfOk result
         (λ a. IsSomeAnd (subcommand_of command_line (texts words.now)) (IsActionOf a)) }
-    ensures refused { FailsBy (fault_of command_line (texts words.now)) result }
+    ensures refused { FailsBy (line_fault (texts words.now)) result }
 
     // What the words of each subcommand ask for, where none of them begins as an option does.
     ensures duty { (zone report time : Text) (times : List Text)
@@ -324,13 +367,30 @@ pub fn action(alloc: Global, words: &[&str]) -> Result<Action, Error>
         → texts words.now ≡ pairings_words file which form → is_plain file ≡ true
         → MatchResult result (IsReport file (of.Pairings which) form)
         (λ e. kind_of e ≡ OutOfMemory) }
+    ensures board { (file from to : Text) (days : Days) (form : Form)
+        → texts words.now ≡ board_words file from to form
+        → list_all is_plain (file ∷ from ∷ to ∷ []) ≡ true → days_read from to ≡ Some days
+        → MatchResult result (IsReport file (of.Board days) form)
+        (λ e. kind_of e ≡ OutOfMemory) }
+    ensures request { (file number : Text) (n : ℕ) (form : Form)
+        → texts words.now ≡ request_words file number form
+        → list_all is_plain (file ∷ number ∷ []) ≡ true → request_number number ≡ Some n
+        → MatchResult result (IsReport file (of.Request n) form) (λ e. kind_of e ≡ OutOfMemory) }
     ensures serve { (file port : Text) (count : Option Text) (p n : ℕ)
         → texts words.now ≡ serve_words file port count
         → list_all is_plain (file ∷ port ∷ []) ≡ true → option_map_or is_plain count true ≡ true
         → number_up_to last_port port ≡ Some p → asked_connections count ≡ Some n
         → MatchResult result (IsServe file p n) (λ e. kind_of e ≡ OutOfMemory) }
 
-    // Numbers out of their ranges.
+    // Numbers out of their ranges, and days that can't be shown.
+    ensures board_days { (file from to : Text) (form : Form)
+        → texts words.now ≡ board_words file from to form
+        → list_all is_plain (file ∷ from ∷ to ∷ []) ≡ true → days_read from to ≡ None
+        → IsErrAnd result (HasKind (ValueValidation ∷ [])) }
+    ensures kept_number { (file number : Text) (form : Form)
+        → texts words.now ≡ request_words file number form
+        → list_all is_plain (file ∷ number ∷ []) ≡ true → request_number number ≡ None
+        → IsErrAnd result (HasKind (ValueValidation ∷ [])) }
     ensures import_number { (file number : Text)
         → texts words.now ≡ import_words file number
         → list_all is_plain (file ∷ number ∷ []) ≡ true → request_number number ≡ None
@@ -344,15 +404,15 @@ pub fn action(alloc: Global, words: &[&str]) -> Result<Action, Error>
     read(alloc, words)
 }
 
-/// Reads the same, as `clap` states it alone. It serves the prover alone: the other clauses of `action` are proved of one
+/// Reads the same, as `clap` and the days of a board state it alone. It serves the prover alone: the other clauses of `action` are proved of one
 /// result, and not of each way in which this function may end.
 fn read(alloc: Global, words: &[&str]) -> Result<Action, Error>
     ensures ok { IfOk result
         (λ a. IsSomeAnd (subcommand_of command_line (texts words.now)) (IsActionOf a)) }
-    ensures refused { FailsBy (fault_of command_line (texts words.now)) result }
+    ensures refused { FailsBy (line_fault (texts words.now)) result }
 {
     let matches = command(alloc)?.try_get_matches_from(words)?;
-    Ok(action_of(alloc, &matches)?)
+    action_of(alloc, &matches)
 }
 
 /// Makes the whole command line.
@@ -379,6 +439,8 @@ fn add_subcommands<'a>(alloc: Global, list: &mut Vec<Command<'a>>) -> Result<(),
     add_exceedances(alloc, list)?;
     add_members(alloc, list)?;
     add_pairings(alloc, list)?;
+    add_board(alloc, list)?;
+    add_request(alloc, list)?;
     add_serve(alloc, list)
 }
 
@@ -553,6 +615,40 @@ fn add_pairings<'a>(alloc: Global, list: &mut Vec<Command<'a>>) -> Result<(), Al
     add_subcommand(alloc, list, "pairings", about, PAIRINGS_EXAMPLE, arguments)
 }
 
+/// Adds the subcommand `board`.
+fn add_board<'a>(alloc: Global, list: &mut Vec<Command<'a>>) -> Result<(), AllocError>
+    ensures { IfOk result (λ _. IsFollowedBy (subcommand (codes "board"))
+        list.old.items list.new.items) }
+{
+    let about = "Print what all members do in some days, and what is open then";
+    let arguments = board_arguments(alloc)?;
+    add_subcommand(alloc, list, "board", about, BOARD_EXAMPLE, arguments)
+}
+
+/// Makes the arguments of `board`.
+fn board_arguments<'a>(alloc: Global) -> Result<Vec<Arg<'a>>, AllocError>
+    ensures { IfOk result (λ list. AreArguments list.items (arguments_of (codes "board"))) }
+{
+    let file = positional(alloc, "file", "FILE").help(FILE_HELP);
+    let from = positional(alloc, "from", "FROM").help(FROM_HELP);
+    let to = positional(alloc, "to", "TO").help(TO_HELP);
+    let json = json_flag(alloc);
+    Ok(vec![in alloc; file, from, to, json]?)
+}
+
+/// Adds the subcommand `request`.
+fn add_request<'a>(alloc: Global, list: &mut Vec<Command<'a>>) -> Result<(), AllocError>
+    ensures { IfOk result (λ _. IsFollowedBy (subcommand (codes "request"))
+        list.old.items list.new.items) }
+{
+    let about = "Print what is kept under a request's number";
+    let file = positional(alloc, "file", "FILE").help(FILE_HELP);
+    let number = number_argument(alloc).help(KEPT_HELP);
+    let json = json_flag(alloc);
+    let arguments = vec![in alloc; file, number, json]?;
+    add_subcommand(alloc, list, "request", about, REQUEST_EXAMPLE, arguments)
+}
+
 /// Adds the subcommand `serve`.
 fn add_serve<'a>(alloc: Global, list: &mut Vec<Command<'a>>) -> Result<(), AllocError>
     ensures { IfOk result (λ _. IsFollowedBy (subcommand (codes "serve"))
@@ -635,11 +731,27 @@ fn positional<'a>(alloc: Global, id: &'a str, value_name: &'a str) -> Arg<'a>
 }
 
 /// Reads the action that the subcommand of the matches asks for.
-fn action_of(alloc: Global, matches: &ArgMatches<'_>) -> Result<Action, AllocError>
+fn action_of(alloc: Global, matches: &ArgMatches<'_>) -> Result<Action, Error>
     requires { HasArguments (subcommand_rows_of matches.now) }
-    ensures { IfOk result (λ a. IsSomeAnd (subcommand_rows_of matches.now) (IsActionOf a)) }
+    ensures ok { IfOk result (λ a. IsSomeAnd (subcommand_rows_of matches.now) (IsActionOf a)) }
+    ensures refused { FailsBy (days_fault (subcommand_rows_of matches.now)) result }
 {
     let (name, arguments) = matches.subcommand().unwrap();
+    match name {
+        "board" => board_of(alloc, arguments),
+        name => Ok(other_action_of(alloc, name, arguments)?),
+    }
+}
+
+/// Reads the action of a subcommand of this name, which isn't `board`.
+fn other_action_of(
+    alloc: Global,
+    name: &str,
+    arguments: &ArgMatches<'_>,
+) -> Result<Action, AllocError>
+    requires { IsNoBoard (name.now, rows_of (found_of arguments.now)) }
+    ensures { IfOk result (λ a. IsActionOf a (name.now, rows_of (found_of arguments.now))) }
+{
     match name {
         "duty" => duty_of(alloc, arguments),
         "init" => init_of(alloc, arguments),
@@ -651,6 +763,7 @@ fn action_of(alloc: Global, matches: &ArgMatches<'_>) -> Result<Action, AllocErr
         "exceedances" => exceedances_of(alloc, arguments),
         "members" => members_of(alloc, arguments),
         "pairings" => pairings_of(alloc, arguments),
+        "request" => request_of(alloc, arguments),
         "serve" => serve_of(alloc, arguments),
         _ => unreachable!(),
     }
@@ -796,6 +909,60 @@ fn pairings_of(alloc: Global, matches: &ArgMatches<'_>) -> Result<Action, AllocE
     })
 }
 
+/// Reads the arguments of `board`.
+fn board_of(alloc: Global, matches: &ArgMatches<'_>) -> Result<Action, Error>
+    requires { HasAll (codes "board") (rows_of (found_of matches.now)) }
+    ensures ok { IfOk result
+        (λ a. IsActionOf a (codes "board", rows_of (found_of matches.now))) }
+    ensures refused { FailsBy (board_fault (days_found (rows_of (found_of matches.now)))) result }
+{
+    let Some(days) = days_of(matches) else {
+        return Err(no_days(alloc)?);
+    };
+    let file = text_of(alloc, matches, "file")?;
+    let subject = Subject::Board(days);
+    let form = form_of(matches);
+    Ok(Action::Report {
+        file,
+        subject,
+        form,
+    })
+}
+
+/// Reads the days of `board`.
+fn days_of(matches: &ArgMatches<'_>) -> Option<Days>
+    requires from { is_some (first_of (codes "from") (rows_of (found_of matches.now))) ≡ true }
+    requires to { is_some (first_of (codes "to") (rows_of (found_of matches.now))) ≡ true }
+    ensures { result ≡ days_found (rows_of (found_of matches.now)) }
+{
+    Days::read(str_of(matches, "from"), str_of(matches, "to"))
+}
+
+/// Makes the error of days that can't be shown.
+fn no_days(alloc: Global) -> Result<Error, AllocError>
+    ensures { IfOk result (λ e. kind_of e ≡ ValueValidation) }
+{
+    let mut board = Command::new(alloc, "board")
+        .bin_name("rosterbook board")?
+        .args(board_arguments(alloc)?)?;
+    board.error(ErrorKind::ValueValidation, NO_DAYS)
+}
+
+/// Reads the arguments of `request`.
+fn request_of(alloc: Global, matches: &ArgMatches<'_>) -> Result<Action, AllocError>
+    requires { HasAll (codes "request") (rows_of (found_of matches.now)) }
+    ensures { IfOk result (λ a. IsActionOf a (codes "request", rows_of (found_of matches.now))) }
+{
+    let file = text_of(alloc, matches, "file")?;
+    let subject = Subject::Request(number_of(matches, "number"));
+    let form = form_of(matches);
+    Ok(Action::Report {
+        file,
+        subject,
+        form,
+    })
+}
+
 /// Returns which pairings are listed: those with a free seat alone, or all.
 fn listed_by(only_open: bool) -> Listed
     ensures { is_only_open result ≡ only_open }
@@ -866,13 +1033,21 @@ fn whole_of(matches: &ArgMatches<'_>, id: &str) -> u64
     matches.get_one::<u64>(id).unwrap()
 }
 
-/// Returns the first value of an argument that has one.
+/// Lends the first value of an argument that has one.
+fn str_of<'m>(matches: &'m ArgMatches<'_>, id: &str) -> &'m str
+    requires { is_some (first_of id.now (rows_of (found_of matches.now))) ≡ true }
+    ensures { first_of id.now (rows_of (found_of matches.now)) ≡ Some result.now }
+{
+    matches.get_str(id).unwrap()
+}
+
+/// Copies the first value of an argument that has one.
 fn text_of(alloc: Global, matches: &ArgMatches<'_>, id: &str) -> Result<String, AllocError>
     requires { is_some (first_of id.now (rows_of (found_of matches.now))) ≡ true }
     ensures { IfOk result
         (λ s. first_of id.now (rows_of (found_of matches.now)) ≡ Some (string_bytes s)) }
 {
-    String::from_str(alloc, matches.get_str(id).unwrap())
+    String::from_str(alloc, str_of(matches, id))
 }
 
 /// Returns the first value of an argument, if it has one.

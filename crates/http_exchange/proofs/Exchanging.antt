@@ -157,6 +157,7 @@ module _ {K : Type 0} (handles : K → K → HandlerRequest → Result StatusTex
   interim_is (refuse fault) = (false, refl)
   interim_is (planning.show what form) = (false, refl)
   interim_is planning.show_desk = (false, refl)
+  interim_is planning.show_count = (false, refl)
   interim_is (receive expected) = (expected.continues, refl)
 
   pub broken_off : (had mid out out' : ChannelBytes) (old new : K) (head : Heading) (fault : ChannelFault) → reading.IsReadWhole had mid head

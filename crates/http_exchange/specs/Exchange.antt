@@ -12,7 +12,8 @@ use Rattle.http_message.specs.declared.plan.ExpectedBody.{ExpectedBody}
 use Rattle.http_message.specs.declared.refusals.RequestFault.{RequestFault}
 use Rattle.http_message.specs.declared.refusals.RequestFault.TheVariants.{NoHead, CutBody}
 use Rattle.http_exchange.specs.Final.{IsAnswerTold, IsSent, IsFinalTold, of_fault, of_no_memory}
-use Rattle.http_exchange.specs.Handler.{HandlerRequest, StatusText, submit, show, show_desk}
+use Rattle.http_exchange.specs.Handler.{HandlerRequest, StatusText, submit, show, show_count}
+use Rattle.http_exchange.specs.Handler.{show_desk}
 use Rattle.http_exchange.specs.declared.handler.HandlerFault.{HandlerFault}
 use Rattle.http_exchange.specs.declared.sending.ChannelFault.{ChannelFault}
 use Rattle.http_exchange.specs.declared.sending.ChannelFault.TheVariants.{Reader, Writer}
@@ -27,6 +28,7 @@ abbrev pub asks : Step → List ℕ → Result HandlerRequest RequestFault
 asks (refuse fault) rest = Err fault
 asks (planning.show what form) rest = Ok (show what form)
 asks planning.show_desk rest = Ok show_desk
+asks planning.show_count rest = Ok show_count
 asks (receive expected) rest =
     if nat_lt (length rest) expected.length then Err CutBody
     else Ok (submit expected.to (take expected.length rest))
@@ -37,6 +39,7 @@ abbrev pub unread : Step → List ℕ → List ℕ
 unread (refuse fault) rest = rest
 unread (planning.show what form) rest = rest
 unread planning.show_desk rest = rest
+unread planning.show_count rest = rest
 unread (receive expected) rest = drop expected.length rest
 
 -- what is written before a body is read: that a client that waits may go on
@@ -48,6 +51,7 @@ abbrev pub interim : Step → List ℕ
 interim (refuse fault) = []
 interim (planning.show what form) = []
 interim planning.show_desk = []
+interim planning.show_count = []
 interim (receive expected) = interim_bytes expected.continues
 
 -- a plan to receive this body

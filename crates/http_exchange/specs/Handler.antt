@@ -11,12 +11,12 @@ use Rattle.http_exchange.specs.declared.handler.Request.TheVariants as rust
 use Rattle.http_exchange.specs.declared.handler.Response.{Response}
 use Rattle.http_exchange.specs.declared.handler.HandlerFault.{HandlerFault}
 
--- what a handler is asked: to do what a body says, to show a report in a form, or to show the page
--- of the desk
+-- what a handler is asked: to do what a body says, to show a report in a form, to show the page of
+-- the desk, or to show how many requests are kept
 pub data HandlerRequest : Type 0 where
   submit : Submission → List ℕ → HandlerRequest
   show : Subject (List ℕ) (List ℕ) → Form → HandlerRequest
-  show_desk : HandlerRequest
+  show_desk show_count : HandlerRequest
 
 -- what a handler answers: a status, and a text with its type and the fields for a browser
 pub record StatusText : Type 0 where
@@ -32,6 +32,7 @@ abbrev pub handler_request : Request → HandlerRequest
 handler_request (rust.Submit to body) = submit to body.now
 handler_request (rust.Show what form) = show (subject_copied what) form
 handler_request rust.ShowDesk = show_desk
+handler_request rust.ShowCount = show_count
 
 -- a response as contracts see it
 abbrev pub answer : Response → StatusText

@@ -4,10 +4,12 @@ use Rattle.std.specs.Io.KnownBytes.{Appends}
 use Rattle.request.specs.Subjects.{subject_copied}
 use Rattle.http_message.specs.Plan.{Planned}
 use Rattle.http_exchange.specs.Exchange.{ChannelBytes, Responds, BreaksOff, asks, interim, unread}
-use Rattle.http_exchange.specs.Handler.{HandlerRequest, StatusText, submit, show, show_desk}
+use Rattle.http_exchange.specs.Handler.{HandlerRequest, StatusText, submit, show, show_count}
+use Rattle.http_exchange.specs.Handler.{show_desk}
 use Rattle.http_exchange.specs.declared.handler.HandlerFault.{HandlerFault}
 use Rattle.http_exchange.specs.declared.receiving.Received.{Received}
-use Rattle.http_exchange.specs.declared.receiving.Received.TheVariants.{Body, Report, Desk, Answered}
+use Rattle.http_exchange.specs.declared.receiving.Received.TheVariants.{Body, Report, Desk, Count}
+use Rattle.http_exchange.specs.declared.receiving.Received.TheVariants.{Answered}
 use Rattle.http_exchange.specs.declared.sending.ChannelFault.{ChannelFault}
 
 -- a handler that answers nothing: what holds of a request with this handler holds of a request that
@@ -36,6 +38,7 @@ IsReceived p had left out out' (Body to body) = AsksFor p had left out out' (sub
 IsReceived p had left out out' (Report what form) =
     AsksFor p had left out out' (show (subject_copied what) form)
 IsReceived p had left out out' Desk = AsksFor p had left out out' show_desk
+IsReceived p had left out out' Count = AsksFor p had left out out' show_count
 IsReceived p had left out out' (Answered code) =
     Responds IsNeverAsked p had left out out' tt tt code
 

@@ -55,6 +55,7 @@ pub fn exchange<R: Read, W: Write, K, H: Handler<K>>(
             handler.handle(alloc, kept, &Request::Show(subject, form))
         }
         Received::Desk => handler.handle(alloc, kept, &Request::ShowDesk),
+        Received::Count => handler.handle(alloc, kept, &Request::ShowCount),
         Received::Answered(status) => return Ok(Served::Answered(status)),
     };
     let status = send_answer(alloc, writer, answer, head.is_for_head())?;

@@ -16,6 +16,8 @@ pub enum Request<'a> {
     Show(Subject<&'a str, &'a str>, Form),
     /// To show the page of the desk.
     ShowDesk,
+    /// To show how many requests are kept.
+    ShowCount,
 }
 
 /// What a handler answers.

@@ -1,4 +1,5 @@
-//! What a request whose head was read asks for: a body that is taken in, a report, the page of the desk, or nothing.
+//! What a request whose head was read asks for: a body that is taken in, a report, the page of the desk, the count of requests, or
+//! nothing.
 //! What clients send and are answered: `tests/exchanges.py`. Wrong bodies: `must-fail-more/`.
 ghost use Rattle.std.specs.Prelude.{◌≡◌, MatchResult};
 ghost use Rattle.std.specs.Io.KnownBytes.{Appends};
@@ -24,6 +25,8 @@ pub(crate) enum Received<'h> {
     Report(Subject<&'h str, &'h str>, Form),
     /// To show the page of the desk.
     Desk,
+    /// To show how many requests are kept.
+    Count,
     /// Nothing: it was answered under this status.
     Answered(StatusCode),
 }
@@ -49,6 +52,7 @@ pub(crate) fn receive<'h, R: Read, W: Write>(
         }
         HeadAction::Show(subject, form) => Ok(Received::Report(subject, form)),
         HeadAction::ShowDesk => Ok(Received::Desk),
+        HeadAction::ShowCount => Ok(Received::Count),
         HeadAction::Receive(expected) => receive_body(alloc, reader, writer, expected, is_head),
     }
 }

@@ -11,11 +11,13 @@ use Rattle.http_message.specs.Reading.{HasHead, HasNoHead}
 use Rattle.http_message.specs.Target.{path_of, form_of, without_json}
 use Rattle.request.specs.declared.form.Form.{Form}
 use Rattle.request.specs.declared.form.Form.TheVariants.{Text, Json}
+use Rattle.request.specs.Days.{Days, days_read}
 use Rattle.request.specs.declared.subject.Subject.{Subject}
+use Rattle.request.specs.declared.subject.Subject.TheVariants as subject
 use Rattle.http_message.specs.Routes.{PathResource, place_of_path}
 use Rattle.http_message.specs.Routes as place
-use Rattle.http_message.specs.Numbers.{import_number}
-use Rattle.http_message.specs.Plan.{Step, field, imported, desk_shown, is_foreign, is_method, is_to_show, lacks_host, plan_for_head, posted, shown, step_of_place}
+use Rattle.http_message.specs.Numbers.{path_number}
+use Rattle.http_message.specs.Plan.{Step, board_shown, count_shown, field, imported, desk_shown, request_shown, is_foreign, is_method, is_to_show, lacks_host, plan_for_head, posted, shown, step_of_place}
 use Rattle.http_message.specs.declared.plan.Submission.{Submission}
 use Rattle.http_message.specs.Extents.{IsExtent, IsExtentOf, NeverHasHead, body_length, waits}
 use Rattle.http_message.specs.declared.extents.Extent.{Extent}
@@ -62,8 +64,19 @@ module _ (h : Heading) (other : is_method h (codes "POST") ≡ false) where
   only_shown : (what : Subject (List ℕ) (List ℕ)) (form : Form) → NeedsNoBody (shown h what form)
   only_shown what form = either_needs_none (is_to_show h) _ _ (refl, refl) (refl, refl)
 
-  only_shown_too : NeedsNoBody (desk_shown h)
-  only_shown_too = either_needs_none (is_to_show h) _ _ (refl, refl) (refl, refl)
+  only_request_shown : (number : Option ℕ) (form : Form) → NeedsNoBody (request_shown h number form)
+  only_request_shown None form = (refl, refl)
+  only_request_shown (Some number) form = only_shown (subject.Request number) form
+
+  only_board_shown : (days : Option Days) (form : Form) → NeedsNoBody (board_shown h days form)
+  only_board_shown None form = (refl, refl)
+  only_board_shown (Some days) form = only_shown (subject.Board days) form
+
+  only_desk_shown : NeedsNoBody (desk_shown h)
+  only_desk_shown = either_needs_none (is_to_show h) _ _ (refl, refl) (refl, refl)
+
+  only_count_shown : NeedsNoBody (count_shown h)
+  only_count_shown = either_needs_none (is_to_show h) _ _ (refl, refl) (refl, refl)
 
   not_imported : (number : Option ℕ) → NeedsNoBody (imported h number)
   not_imported None = (refl, refl)
@@ -72,13 +85,21 @@ module _ (h : Heading) (other : is_method h (codes "POST") ≡ false) where
   no_place_needs_a_body : (named : Option PathResource) (form : Form) → NeedsNoBody (step_of_place h named form)
   no_place_needs_a_body None form = (refl, refl)
   no_place_needs_a_body (Some (place.report what)) form = only_shown what form
-  no_place_needs_a_body (Some place.desk) Text = only_shown_too
+  no_place_needs_a_body (Some (place.request number)) form = only_request_shown (path_number number) form
+  no_place_needs_a_body (Some (place.board first last)) form = only_board_shown (days_read first last) form
+  no_place_needs_a_body (Some place.desk) Text = only_desk_shown
+  no_place_needs_a_body (Some place.count) Json = only_count_shown
   no_place_needs_a_body (Some place.requests) Text = not_posted _
   no_place_needs_a_body (Some place.checks) Text = not_posted _
-  no_place_needs_a_body (Some (place.import number)) Text = not_imported (import_number number)
+  no_place_needs_a_body (Some place.lines) Text = not_posted _
+  no_place_needs_a_body (Some place.line_checks) Text = not_posted _
+  no_place_needs_a_body (Some (place.import number)) Text = not_imported (path_number number)
+  no_place_needs_a_body (Some place.count) Text = (refl, refl)
   no_place_needs_a_body (Some place.desk) Json = (refl, refl)
   no_place_needs_a_body (Some place.requests) Json = (refl, refl)
   no_place_needs_a_body (Some place.checks) Json = (refl, refl)
+  no_place_needs_a_body (Some place.lines) Json = (refl, refl)
+  no_place_needs_a_body (Some place.line_checks) Json = (refl, refl)
   no_place_needs_a_body (Some (place.import number)) Json = (refl, refl)
 
   no_body : NeedsNoBody (plan_for_head h).step

@@ -9,10 +9,10 @@ use Rattle.matchit.specs.Rows.{RowsOf}
 use Rattle.matchit.specs.Router.{RouteOf}
 use Rattle.matchit.specs.Seek.{seek, step, own, or_else, first, param_step, has_slash, segment, cuts}
 use Rattle.http_message.specs.declared.routes.Route.{Route}
-use Rattle.http_message.specs.declared.routes.Route.TheVariants.{Requests, Checks, Import, Crew, Pairing, Exceedances, Limits, LimitsWith, Members, Pairings, OpenPairings, Desk}
+use Rattle.http_message.specs.declared.routes.Route.TheVariants.{Requests, Checks, Lines, LineChecks, Count, Import, Request, Board, Crew, Pairing, Exceedances, Limits, LimitsWith, Members, Pairings, OpenPairings, Desk}
 use Rattle.request.specs.declared.subject.Listed.TheVariants.{All, Open}
 use Rattle.request.specs.declared.subject.Subject.TheVariants as subject
-use Rattle.http_message.specs.Routes.{PathResource, desk, requests, checks, import, report, place_of_path, route_table, exactly, id_after, ids_after, at_slash, both_ids, is_path_id, first_or_other}
+use Rattle.http_message.specs.Routes.{PathResource, desk, requests, checks, lines, line_checks, count, import, request, board, report, place_of_path, route_table, exactly, id_after, ids_after, at_slash, both_ids, is_path_id, first_or_other}
 
 -- ---- a walk over rows of any keys
 
@@ -320,6 +320,71 @@ module _ {K : Type 0} where
       by true e ih = rw e ih
       by false e ih = rw e (seek_none 0 p)
 
+  -- ---- two ids, where one alone is nothing
+
+  abbrev two_alone : K → RowsOf K
+  two_alone k = (47 ∷ 256 ∷ [], k) ∷ []
+
+  two_step : (path : List ℕ) (k : K) (v : Bool) → cuts (segment path) (47 ∷ []) ≡ v
+      → param_step (two_alone k) path ≡ cond {A = ℕ × RowsOf K} v (length (segment path) - 1, two_alone k) (cond (has_slash path) (0, []) (length path, two_alone k))
+  unfolding param_step
+  two_step path k true e = rw e refl
+  two_step path k false e = rw e refl
+
+  two_whole : (b : ℕ) (p : List ℕ) (k : K) → has_slash (b ∷ p) ≡ false → walk_on (param_step (two_alone k) (b ∷ p)) p ≡ None
+  two_whole b p k none =
+      let e : cuts (segment (b ∷ p)) (47 ∷ []) ≡ false = rw (whole_segment (b ∷ p) none) (cuts_nowhere (b ∷ p) none) in
+      let n : suc (length p) - 1 ≡ length p = omega arith in
+      rw (two_step (b ∷ p) k false e, none, n) (seek_all p (two_alone k))
+
+  two_none : (p : List ℕ) (k : K) → walk_on (param_step (two_alone k) (47 ∷ p)) p ≡ None
+  two_none p k = rw (two_step (47 ∷ p) k false refl) (seek_none 0 p)
+
+  two_first : (b : ℕ) (a rest : List ℕ) (k : K) → has_slash (b ∷ a) ≡ false → IsText rest
+      → walk_on (param_step (two_alone k) (b ∷ a ++ 47 ∷ rest)) (a ++ 47 ∷ rest) ≡ option_map (λ _. k) (both_ids (Some (b ∷ a, rest)))
+  two_first b a rest k none t =
+      let s : segment (b ∷ a ++ 47 ∷ rest) ≡ b ∷ a ++ 47 ∷ [] = segment_at_slash (b ∷ a) rest none in
+      let e : cuts (segment (b ∷ a ++ 47 ∷ rest)) (47 ∷ []) ≡ true = rw s (cuts_before b a) in
+      let n : length (segment (b ∷ a ++ 47 ∷ rest)) - 1 - 1 ≡ length a = omega (arith, ap length s, length-append (b ∷ a) (47 ∷ [])) in
+      let found : walk_on (param_step (two_alone k) (b ∷ a ++ 47 ∷ rest)) (a ++ 47 ∷ rest) ≡ option_map (λ _. k) (id_after [] rest) =
+      rw (two_step (b ∷ a ++ 47 ∷ rest) k true e, n)
+      (seek_past a (two_alone k) (47 ∷ rest) ∙ seek_param (47 ∷ []) (47 ∷ rest) k (omega arith, tt) (omega arith, t)) in
+      found ∙ rw (← slashes (b ∷ a), none)
+      (elim (is_path_id rest) as (λ v. option_map (λ _. k) (if v then Some rest else None) ≡ option_map {T = List ℕ × List ℕ} (λ _. k) (if v then Some (b ∷ a, rest) else None)) [ true ↦ refl | false ↦ refl ])
+
+  seek_two : (b : ℕ) (p : List ℕ) (k : K) → IsText (b ∷ p) → seek 0 ((256 ∷ 47 ∷ 256 ∷ [], k) ∷ []) (b ∷ p) ≡ option_map (λ _. k) (ids_after [] (b ∷ p))
+  unfolding seek
+  seek_two b p k t =
+      let e : (256 == b) ≡ false = let small = t.0 in grind (arith, nat_tests) in
+      rw (e, seek_none 0 p) (or_none (walk_on (param_step (two_alone k) (b ∷ p)) p) ∙ by (at_slash (b ∷ p)) (cut_at_slash (b ∷ p)))
+    where
+      by : (o : Option (List ℕ × List ℕ)) → IsCut (b ∷ p) o → walk_on (param_step (two_alone k) (b ∷ p)) p ≡ option_map (λ _. k) (both_ids o)
+      by None none = two_whole b p k none
+      by (Some ([], rest)) is =
+          let same : 47 ≡ b = let all = is.0 in cc in
+          subst (λ b. walk_on (param_step (two_alone k) (b ∷ p)) p ≡ None) same (two_none p k)
+      by (Some (c ∷ a, rest)) is =
+          let first : c ≡ b = let all = is.0 in cc in
+          let more : a ++ 47 ∷ rest ≡ p = let all = is.0 in cc in
+          let here = two_first c a rest k is.1 (text_after a rest (subst IsText (sym more) t.1)) in
+          subst (λ p. walk_on (param_step (two_alone k) (b ∷ p)) p ≡ option_map (λ _. k) (both_ids (Some (c ∷ a, rest)))) more
+          (subst (λ b. walk_on (param_step (two_alone k) (b ∷ (a ++ 47 ∷ rest))) (a ++ 47 ∷ rest) ≡ option_map (λ _. k) (both_ids (Some (c ∷ a, rest)))) first here)
+
+  seek_two_after : (w p : List ℕ) (k : K) → IsText w → IsText p → seek 0 ((w ++ 256 ∷ 47 ∷ 256 ∷ [], k) ∷ []) p ≡ option_map (λ _. k) (ids_after w p)
+  unfolding seek
+  seek_two_after [] [] k t u = refl
+  seek_two_after [] (b ∷ p) k t u = seek_two b p k u
+  seek_two_after (a ∷ w) [] k t u = refl
+  seek_two_after (a ∷ w) (b ∷ p) k t u =
+      let e : (a == 256) ≡ false = let h = t.0 in grind (arith, nat_tests) in
+      let f : (a == 257) ≡ false = let h = t.0 in grind (arith, nat_tests) in
+      literal_step ((a ∷ w ++ 256 ∷ 47 ∷ 256 ∷ [], k) ∷ []) b p (rw e refl) (rw f refl) ∙ by (a == b) refl (seek_two_after w p k t.1 u.1)
+    where
+      by : (v : Bool) → (a == b) ≡ v → seek 0 ((w ++ 256 ∷ 47 ∷ 256 ∷ [], k) ∷ []) p ≡ option_map (λ _. k) (ids_after w p)
+          → seek 0 (step b ((a ∷ w ++ 256 ∷ 47 ∷ 256 ∷ [], k) ∷ [])) p ≡ option_map (λ _. k) (ids_after (a ∷ w) (b ∷ p))
+      by true e ih = rw e ih
+      by false e ih = rw e (seek_none 0 p)
+
 -- ---- the table
 
 -- the places of the reports
@@ -348,24 +413,34 @@ abbrev pub Found : Type 0
 Found = Option (RouteOf Route)
 
 abbrev pub row_of : Route → RouteOf Route
-row_of Checks = (get_or route_table 0 (codes "", record { pattern = []; text = []; names = []; value = Requests })).1
-row_of Crew = (get_or route_table 1 (codes "", record { pattern = []; text = []; names = []; value = Requests })).1
-row_of Exceedances = (get_or route_table 2 (codes "", record { pattern = []; text = []; names = []; value = Requests })).1
-row_of Import = (get_or route_table 3 (codes "", record { pattern = []; text = []; names = []; value = Requests })).1
-row_of Pairing = (get_or route_table 4 (codes "", record { pattern = []; text = []; names = []; value = Requests })).1
-row_of LimitsWith = (get_or route_table 5 (codes "", record { pattern = []; text = []; names = []; value = Requests })).1
-row_of Limits = (get_or route_table 6 (codes "", record { pattern = []; text = []; names = []; value = Requests })).1
-row_of Members = (get_or route_table 7 (codes "", record { pattern = []; text = []; names = []; value = Requests })).1
-row_of OpenPairings = (get_or route_table 8 (codes "", record { pattern = []; text = []; names = []; value = Requests })).1
-row_of Pairings = (get_or route_table 9 (codes "", record { pattern = []; text = []; names = []; value = Requests })).1
-row_of Requests = (get_or route_table 10 (codes "", record { pattern = []; text = []; names = []; value = Requests })).1
-row_of Desk = (get_or route_table 11 (codes "", record { pattern = []; text = []; names = []; value = Requests })).1
+row_of Board = (get_or route_table 0 (codes "", record { pattern = []; text = []; names = []; value = Requests })).1
+row_of Checks = (get_or route_table 1 (codes "", record { pattern = []; text = []; names = []; value = Requests })).1
+row_of Count = (get_or route_table 2 (codes "", record { pattern = []; text = []; names = []; value = Requests })).1
+row_of Crew = (get_or route_table 3 (codes "", record { pattern = []; text = []; names = []; value = Requests })).1
+row_of Exceedances = (get_or route_table 4 (codes "", record { pattern = []; text = []; names = []; value = Requests })).1
+row_of Import = (get_or route_table 5 (codes "", record { pattern = []; text = []; names = []; value = Requests })).1
+row_of LineChecks = (get_or route_table 6 (codes "", record { pattern = []; text = []; names = []; value = Requests })).1
+row_of Lines = (get_or route_table 7 (codes "", record { pattern = []; text = []; names = []; value = Requests })).1
+row_of Pairing = (get_or route_table 8 (codes "", record { pattern = []; text = []; names = []; value = Requests })).1
+row_of LimitsWith = (get_or route_table 9 (codes "", record { pattern = []; text = []; names = []; value = Requests })).1
+row_of Limits = (get_or route_table 10 (codes "", record { pattern = []; text = []; names = []; value = Requests })).1
+row_of Members = (get_or route_table 11 (codes "", record { pattern = []; text = []; names = []; value = Requests })).1
+row_of OpenPairings = (get_or route_table 12 (codes "", record { pattern = []; text = []; names = []; value = Requests })).1
+row_of Pairings = (get_or route_table 13 (codes "", record { pattern = []; text = []; names = []; value = Requests })).1
+row_of Request = (get_or route_table 14 (codes "", record { pattern = []; text = []; names = []; value = Requests })).1
+row_of Requests = (get_or route_table 15 (codes "", record { pattern = []; text = []; names = []; value = Requests })).1
+row_of Desk = (get_or route_table 16 (codes "", record { pattern = []; text = []; names = []; value = Requests })).1
 
 abbrev pub route_to : PathResource → Route
 route_to desk = Desk
 route_to requests = Requests
 route_to checks = Checks
+route_to lines = Lines
+route_to line_checks = LineChecks
+route_to count = Count
 route_to (import number) = Import
+route_to (request number) = Request
+route_to (board from to) = Board
 route_to (report (subject.Crew id)) = Crew
 route_to (report (subject.Pairing id)) = Pairing
 route_to (report subject.Exceedances) = Exceedances
@@ -374,6 +449,9 @@ route_to (report (subject.Limits id (Some other))) = LimitsWith
 route_to (report subject.Members) = Members
 route_to (report (subject.Pairings All)) = Pairings
 route_to (report (subject.Pairings Open)) = OpenPairings
+-- (no path names these by a report: the plan makes them of a number, and of days)
+route_to (report (subject.Board days)) = Board
+route_to (report (subject.Request number)) = Request
 
 -- the row that leads to a place
 abbrev pub row_to : Option PathResource → Found
@@ -403,6 +481,16 @@ made_to make route (Some a) leads = ap (λ r. Some (row_of r)) (sym (leads a))
 either_to : (a b : Option PathResource) → or_else (row_to a) (row_to b) ≡ row_to (first_or_other a b)
 either_to None b = refl
 either_to (Some a) b = refl
+
+-- an id after these bytes leads to a place
+id_to : (w p : List ℕ) (make : List ℕ → PathResource) (route : Route) → IsText w → IsText p → ((id : List ℕ) → route_to (make id) ≡ route)
+    → seek 0 ((w ++ 256 ∷ [], row_of route) ∷ []) p ≡ row_to (option_map make (id_after w p))
+id_to w p make route t u leads = seek_param w p (row_of route) t u ∙ made_to make route (id_after w p) leads
+
+-- two ids after these bytes lead to a place
+ids_to : (w p : List ℕ) (make : List ℕ × List ℕ → PathResource) (route : Route) → IsText w → IsText p → ((ids : List ℕ × List ℕ) → route_to (make ids) ≡ route)
+    → seek 0 ((w ++ 256 ∷ 47 ∷ 256 ∷ [], row_of route) ∷ []) p ≡ row_to (option_map make (ids_after w p))
+ids_to w p make route t u leads = seek_two_after w p (row_of route) t u ∙ made_to make route (ids_after w p) leads
 
 -- the limits of a member, alone or with a pairing, where this stands before the ids
 abbrev limits_after : List ℕ → List ℕ → Option PathResource
@@ -509,9 +597,79 @@ reports_found w p t u = seek_prefixed w p report_rows t ∙ by (after w p) refl 
     by None e = rw e refl
     by (Some rest) e = rw e (report_found rest (text_left w p rest u e))
 
+-- requests, and lines, where this stands before what may follow either name
+abbrev requests_after : List ℕ → List ℕ → Option PathResource
+requests_after front p = first_or_other (exactly (front ++ []) requests p) (option_map request (id_after (front ++ codes "/") p))
+
+abbrev lines_after : List ℕ → List ℕ → Option PathResource
+lines_after front p = first_or_other (exactly (front ++ []) lines p) (exactly (front ++ codes "/checks") line_checks p)
+
+requests_past : (w p : List ℕ) → requests_after w p ≡ option_and_then (requests_after []) (after w p)
+requests_past w p =
+    rw (exactly_past w [] p requests, id_past w (codes "/") p)
+    (elim (after w p) as (λ o.
+    first_or_other (option_and_then (exactly [] requests) o) (option_map request (option_and_then (id_after (codes "/")) o)) ≡ option_and_then (requests_after []) o) [
+      | None ↦ refl
+      | Some rest ↦ refl
+    ])
+
+lines_past : (w p : List ℕ) → lines_after w p ≡ option_and_then (lines_after []) (after w p)
+lines_past w p =
+    rw (exactly_past w [] p lines, exactly_past w (codes "/checks") p line_checks)
+    (elim (after w p) as (λ o.
+    first_or_other (option_and_then (exactly [] lines) o) (option_and_then (exactly (codes "/checks") line_checks) o) ≡ option_and_then (lines_after []) o) [
+      | None ↦ refl
+      | Some rest ↦ refl
+    ])
+
+-- their rows, with the name gone
+abbrev request_rows : RowsOf (RouteOf Route)
+request_rows = (47 ∷ 256 ∷ [], row_of Request) ∷ ([], row_of Requests) ∷ []
+
+abbrev line_rows : RowsOf (RouteOf Route)
+line_rows = (codes "/checks", row_of LineChecks) ∷ ([], row_of Lines) ∷ []
+
+request_found : (p : List ℕ) → IsText p → seek 0 request_rows p ≡ row_to (requests_after [] p)
+unfolding seek
+request_found [] t = refl
+request_found (c ∷ p) t = literal_step request_rows c p refl refl ∙ by (47 == c) refl
+  where
+    by : (v : Bool) → (47 == c) ≡ v → seek 0 (step c request_rows) p ≡ row_to (requests_after [] (c ∷ p))
+    by true e =
+        let is : 47 ≡ c = grind (arith, nat_tests) in
+        subst (λ c. seek 0 (step c request_rows) p ≡ row_to (requests_after [] (c ∷ p))) is
+        (id_to [] p request Request tt t.1 (λ _. refl))
+    by false e = rw e (seek_none 0 p)
+
+line_found : (p : List ℕ) → IsText p → seek 0 line_rows p ≡ row_to (lines_after [] p)
+unfolding seek
+line_found [] t = refl
+line_found (c ∷ p) t = literal_step line_rows c p refl refl ∙ by (47 == c) refl
+  where
+    by : (v : Bool) → (47 == c) ≡ v → seek 0 (step c line_rows) p ≡ row_to (lines_after [] (c ∷ p))
+    by true e =
+        let is : 47 ≡ c = grind (arith, nat_tests) in
+        subst (λ c. seek 0 (step c line_rows) p ≡ row_to (lines_after [] (c ∷ p))) is
+        (exactly_to (codes "checks") p line_checks (is_text (codes "checks") refl))
+    by false e = rw e (seek_none 0 p)
+
+requests_found : (w p : List ℕ) → IsText w → IsText p → seek 0 (prefixed w request_rows) p ≡ row_to (requests_after w p)
+requests_found w p t u = seek_prefixed w p request_rows t ∙ by (after w p) refl ∙ ap row_to (sym (requests_past w p))
+  where
+    by : (o : Option (List ℕ)) → after w p ≡ o → option_and_then (λ rest. seek 0 request_rows rest) (after w p) ≡ row_to (option_and_then (requests_after []) (after w p))
+    by None e = rw e refl
+    by (Some rest) e = rw e (request_found rest (text_left w p rest u e))
+
+lines_found : (w p : List ℕ) → IsText w → IsText p → seek 0 (prefixed w line_rows) p ≡ row_to (lines_after w p)
+lines_found w p t u = seek_prefixed w p line_rows t ∙ by (after w p) refl ∙ ap row_to (sym (lines_past w p))
+  where
+    by : (o : Option (List ℕ)) → after w p ≡ o → option_and_then (λ rest. seek 0 line_rows rest) (after w p) ≡ row_to (option_and_then (lines_after []) (after w p))
+    by None e = rw e refl
+    by (Some rest) e = rw e (line_found rest (text_left w p rest u e))
+
 -- what begins with `/r`
 abbrev after_r : List ℕ → Option PathResource
-after_r p = first_or_other (exactly (codes "equests") requests p) (reports_after (codes "eports/") p)
+after_r p = first_or_other (exactly (codes "equests") requests p) (first_or_other (option_map request (id_after (codes "equests/") p)) (reports_after (codes "eports/") p))
 
 under_req : (c : ℕ) (p : List ℕ) → IsText p → seek 0 (step c (step 101 (step 114 (step 47 route_table)))) p ≡ row_to (after_r (101 ∷ c ∷ p))
 under_req c p t = by112 (112 == c) refl
@@ -520,7 +678,8 @@ under_req c p t = by112 (112 == c) refl
     by113 true e f =
         let is : 113 ≡ c = grind (arith, nat_tests) in
         subst (λ c. seek 0 (step c (step 101 (step 114 (step 47 route_table)))) p ≡ row_to (after_r (101 ∷ c ∷ p))) is
-        (exactly_to (codes "uests") p requests (is_text (codes "uests") refl) ∙ ap row_to (sym (none_after (exactly (codes "uests") requests p))))
+        (requests_found (codes "uests") p (is_text (codes "uests") refl) t
+        ∙ ap (λ o. row_to (first_or_other (exactly (codes "uests") requests p) o)) (sym (none_after (option_map request (id_after (codes "uests/") p)))))
     by113 false e f = rw (e, f) (seek_none 0 p)
 
     by112 : (v : Bool) → (112 == c) ≡ v → seek 0 (step c (step 101 (step 114 (step 47 route_table)))) p ≡ row_to (after_r (101 ∷ c ∷ p))
@@ -546,33 +705,35 @@ under_r (c ∷ p) t = literal_step (step 114 (step 47 route_table)) c p refl ref
         subst (λ c. seek 0 (step c (step 114 (step 47 route_table))) p ≡ row_to (after_r (c ∷ p))) is (under_re p t.1)
     by false e = rw e (seek_none 0 p)
 
--- an id after these bytes leads to a place
-id_to : (w p : List ℕ) (make : List ℕ → PathResource) (route : Route) → IsText w → IsText p → ((id : List ℕ) → route_to (make id) ≡ route)
-    → seek 0 ((w ++ 256 ∷ [], row_of route) ∷ []) p ≡ row_to (option_map make (id_after w p))
-id_to w p make route t u leads = seek_param w p (row_of route) t u ∙ made_to make route (id_after w p) leads
-
 -- what begins with `/c`
 abbrev pub after_c : List ℕ → Option PathResource
-after_c p = first_or_other (exactly (codes "hecks") checks p) (option_map crew (id_after (codes "rew/") p))
+after_c p = first_or_other (exactly (codes "hecks") checks p) (first_or_other (exactly (codes "ount") count p) (option_map crew (id_after (codes "rew/") p)))
 
 under_c : (p : List ℕ) → IsText p → seek 0 (step 99 (step 47 route_table)) p ≡ row_to (after_c p)
 unfolding seek
 under_c [] t = refl
 under_c (c ∷ p) t = literal_step (step 99 (step 47 route_table)) c p refl refl ∙ by104 (104 == c) refl
   where
-    by114 : (v : Bool) → (114 == c) ≡ v → (104 == c) ≡ false → seek 0 (step c (step 99 (step 47 route_table))) p ≡ row_to (after_c (c ∷ p))
-    by114 true e f =
+    by114 : (v : Bool) → (114 == c) ≡ v → (104 == c) ≡ false → (111 == c) ≡ false → seek 0 (step c (step 99 (step 47 route_table))) p ≡ row_to (after_c (c ∷ p))
+    by114 true e f g =
         let is : 114 ≡ c = grind (arith, nat_tests) in
         subst (λ c. seek 0 (step c (step 99 (step 47 route_table))) p ≡ row_to (after_c (c ∷ p))) is
         (id_to (codes "ew/") p crew Crew (is_text (codes "ew/") refl) t.1 (λ _. refl))
-    by114 false e f = rw (e, f) (seek_none 0 p)
+    by114 false e f g = rw (e, f, g) (seek_none 0 p)
+
+    by111 : (v : Bool) → (111 == c) ≡ v → (104 == c) ≡ false → seek 0 (step c (step 99 (step 47 route_table))) p ≡ row_to (after_c (c ∷ p))
+    by111 true e f =
+        let is : 111 ≡ c = grind (arith, nat_tests) in
+        subst (λ c. seek 0 (step c (step 99 (step 47 route_table))) p ≡ row_to (after_c (c ∷ p))) is
+        (exactly_to (codes "unt") p count (is_text (codes "unt") refl) ∙ ap row_to (sym (none_after (exactly (codes "unt") count p))))
+    by111 false e f = by114 (114 == c) refl f e
 
     by104 : (v : Bool) → (104 == c) ≡ v → seek 0 (step c (step 99 (step 47 route_table))) p ≡ row_to (after_c (c ∷ p))
     by104 true e =
         let is : 104 ≡ c = grind (arith, nat_tests) in
         subst (λ c. seek 0 (step c (step 99 (step 47 route_table))) p ≡ row_to (after_c (c ∷ p))) is
         (exactly_to (codes "ecks") p checks (is_text (codes "ecks") refl) ∙ ap row_to (sym (none_after (exactly (codes "ecks") checks p))))
-    by104 false e = by114 (114 == c) refl e
+    by104 false e = by111 (111 == c) refl e
 
 -- the rest of a path after its slash
 abbrev rest_place : List ℕ → Option PathResource
@@ -580,20 +741,39 @@ rest_place p =
     first_or_other (exactly [] desk p)
     (first_or_other (exactly (codes "requests") requests p)
     (first_or_other (exactly (codes "checks") checks p)
+    (first_or_other (option_map request (id_after (codes "requests/") p))
+    (first_or_other (exactly (codes "lines") lines p)
+    (first_or_other (exactly (codes "lines/checks") line_checks p)
+    (first_or_other (exactly (codes "count") count p)
+    (first_or_other (option_map (λ days. board days.0 days.1) (ids_after (codes "board/") p))
     (first_or_other (option_map import (id_after (codes "imports/") p))
     (first_or_other (option_map crew (id_after (codes "crew/") p))
     (first_or_other (option_map pairing (id_after (codes "pairings/") p))
     (first_or_other (exactly (codes "exceedances") exceedances p)
-    (reports_after (codes "reports/") p)))))))
+    (reports_after (codes "reports/") p))))))))))))
 
 split : (c : ℕ) (p : List ℕ) → IsText p → seek 0 (step c (step 47 route_table)) p ≡ row_to (rest_place (c ∷ p))
 split c p t = by99 (99 == c) refl
   where
+    by98 : (v : Bool) → (98 == c) ≡ v → (99 == c) ≡ false → (101 == c) ≡ false → (105 == c) ≡ false → (112 == c) ≡ false → (114 == c) ≡ false → (108 == c) ≡ false → seek 0 (step c (step 47 route_table)) p ≡ row_to (rest_place (c ∷ p))
+    by98 true e f g h i j k =
+        let is : 98 ≡ c = grind (arith, nat_tests) in
+        subst (λ c. seek 0 (step c (step 47 route_table)) p ≡ row_to (rest_place (c ∷ p))) is
+        (ids_to (codes "oard/") p (λ days. board days.0 days.1) Board (is_text (codes "oard/") refl) t (λ _. refl) ∙ ap row_to (sym (none_after (option_map (λ days. board days.0 days.1) (ids_after (codes "oard/") p)))))
+    by98 false e f g h i j k = rw (e, f, g, h, i, j, k) (seek_none 0 p)
+
+    by108 : (v : Bool) → (108 == c) ≡ v → (99 == c) ≡ false → (101 == c) ≡ false → (105 == c) ≡ false → (112 == c) ≡ false → (114 == c) ≡ false → seek 0 (step c (step 47 route_table)) p ≡ row_to (rest_place (c ∷ p))
+    by108 true e f g h i j =
+        let is : 108 ≡ c = grind (arith, nat_tests) in
+        subst (λ c. seek 0 (step c (step 47 route_table)) p ≡ row_to (rest_place (c ∷ p))) is
+        (lines_found (codes "ines") p (is_text (codes "ines") refl) t ∙ ap (λ o. row_to (first_or_other (exactly (codes "ines") lines p) o)) (sym (none_after (exactly (codes "ines/checks") line_checks p))))
+    by108 false e f g h i j = by98 (98 == c) refl f g h i j e
+
     by114 : (v : Bool) → (114 == c) ≡ v → (99 == c) ≡ false → (101 == c) ≡ false → (105 == c) ≡ false → (112 == c) ≡ false → seek 0 (step c (step 47 route_table)) p ≡ row_to (rest_place (c ∷ p))
     by114 true e f g h i =
         let is : 114 ≡ c = grind (arith, nat_tests) in
         subst (λ c. seek 0 (step c (step 47 route_table)) p ≡ row_to (rest_place (c ∷ p))) is (under_r p t)
-    by114 false e f g h i = rw (e, f, g, h, i) (seek_none 0 p)
+    by114 false e f g h i = by108 (108 == c) refl f g h i e
 
     by112 : (v : Bool) → (112 == c) ≡ v → (99 == c) ≡ false → (101 == c) ≡ false → (105 == c) ≡ false → seek 0 (step c (step 47 route_table)) p ≡ row_to (rest_place (c ∷ p))
     by112 true e f g h =
@@ -616,12 +796,9 @@ split c p t = by99 (99 == c) refl
         (exactly_to (codes "xceedances") p exceedances (is_text (codes "xceedances") refl) ∙ ap row_to (sym (none_after (exactly (codes "xceedances") exceedances p))))
     by101 false e f = by105 (105 == c) refl f e
 
-    -- what is not of checks is of members, or of neither
+    -- what is not of checks or of the count is of members, or of none of them
     after_is : (p : List ℕ) → rest_place (99 ∷ p) ≡ after_c p
-    after_is p = elim (exactly (codes "hecks") checks p) as (λ o. first_or_other o (first_or_other (option_map crew (id_after (codes "rew/") p)) None) ≡ first_or_other o (option_map crew (id_after (codes "rew/") p))) [
-      | None ↦ none_after (option_map crew (id_after (codes "rew/") p))
-      | Some a ↦ refl
-    ]
+    after_is p = ap (λ o. first_or_other (exactly (codes "hecks") checks p) (first_or_other (exactly (codes "ount") count p) o)) (none_after (option_map crew (id_after (codes "rew/") p)))
 
     by99 : (v : Bool) → (99 == c) ≡ v → seek 0 (step c (step 47 route_table)) p ≡ row_to (rest_place (c ∷ p))
     by99 true e =

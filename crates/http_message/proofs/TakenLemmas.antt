@@ -10,8 +10,8 @@ use Rattle.matchit.specs.Rows.{RowsOf}
 use Rattle.matchit.specs.Router.{RouteOf}
 use Rattle.matchit.specs.Seek.{first, segment, has_slash}
 use Rattle.http_message.specs.declared.routes.Route.{Route}
-use Rattle.http_message.specs.declared.routes.Route.TheVariants.{Requests, Checks, Import, Crew, Pairing, Exceedances, Limits, LimitsWith, Members, Pairings, OpenPairings, Desk}
-use Rattle.http_message.specs.Routes.{PathResource, desk, requests, checks, import, place_of_path, place_by, route_table, exactly, id_after, ids_after, at_slash, both_ids, is_path_id, first_or_other}
+use Rattle.http_message.specs.declared.routes.Route.TheVariants.{Requests, Checks, Lines, LineChecks, Count, Import, Request, Board, Crew, Pairing, Exceedances, Limits, LimitsWith, Members, Pairings, OpenPairings, Desk}
+use Rattle.http_message.specs.Routes.{PathResource, desk, requests, checks, lines, line_checks, count, import, request, board, place_of_path, place_by, route_table, exactly, id_after, ids_after, at_slash, both_ids, is_path_id, first_or_other}
 use Rattle.http_message.proofs.RouteLemmas.{Found, IsText, is_text, row_of, route_to, row_to, crew, pairing, exceedances, limits, members, pairings, open_pairings, table_found, text_of, IsCut, cut_at_slash, segment_at_slash}
 
 -- ---- parts of a path
@@ -141,6 +141,18 @@ import_named number text =
     (one_taken (codes "/imports/") number (codes "/imports/{number}") (10, 16) (is_text (codes "/imports/") refl))
     (name_is_utf8 (codes "number") refl, text, tt) refl
 
+request_named : (number : List ℕ) → IsUtf8 number → Named (codes "/requests/" ++ number) (request number)
+request_named number text =
+    named_by (codes "/requests/" ++ number) (request number) ((codes "number", number) ∷ [])
+    (one_taken (codes "/requests/") number (codes "/requests/{number}") (11, 17) (is_text (codes "/requests/") refl))
+    (name_is_utf8 (codes "number") refl, text, tt) refl
+
+board_named : (first last : List ℕ) → has_slash first ≡ false → IsUtf8 first → IsUtf8 last → Named (codes "/board/" ++ (first ++ 47 ∷ last)) (board first last)
+board_named first last none text more =
+    named_by (codes "/board/" ++ (first ++ 47 ∷ last)) (board first last) ((codes "from", first) ∷ (codes "to", last) ∷ [])
+    (two_taken (codes "/board/") first last (codes "/board/{from}/{to}") (8, 12) (15, 17) (is_text (codes "/board/") refl) (omega arith) none)
+    (name_is_utf8 (codes "from") refl, text, (name_is_utf8 (codes "to") refl, more, tt)) refl
+
 crew_named : (id : List ℕ) → IsUtf8 id → Named (codes "/crew/" ++ id) (crew id)
 crew_named id text =
     named_by (codes "/crew/" ++ id) (crew id) ((codes "id", id) ∷ [])
@@ -241,6 +253,11 @@ good_place path utf8 =
     good_first path _ _ (good_name path (codes "/") desk (tt, refl))
     (good_first path _ _ (good_name path (codes "/requests") requests (tt, refl))
     (good_first path _ _ (good_name path (codes "/checks") checks (tt, refl))
+    (good_first path _ _ (good_id path (codes "/requests") request utf8 request_named)
+    (good_first path _ _ (good_name path (codes "/lines") lines (tt, refl))
+    (good_first path _ _ (good_name path (codes "/lines/checks") line_checks (tt, refl))
+    (good_first path _ _ (good_name path (codes "/count") count (tt, refl))
+    (good_first path _ _ (good_ids path (codes "/board") (λ days. board days.0 days.1) utf8 board_named)
     (good_first path _ _ (good_id path (codes "/imports") import utf8 import_named)
     (good_first path _ _ (good_id path (codes "/crew") crew utf8 crew_named)
     (good_first path _ _ (good_id path (codes "/pairings") pairing utf8 pairing_named)
@@ -249,13 +266,18 @@ good_place path utf8 =
     (good_first path _ _ (good_ids path (codes "/reports/limits") (λ ids. limits ids.0 (Some ids.1)) utf8 limits_with_named)
     (good_first path _ _ (good_name path (codes "/reports/members") members (tt, refl))
     (good_first path _ _ (good_name path (codes "/reports/pairings") pairings (tt, refl))
-    (good_name path (codes "/reports/open") open_pairings (tt, refl))))))))))))
+    (good_name path (codes "/reports/open") open_pairings (tt, refl)))))))))))))))))
 
 value_is : (r : Route) → (row_of r).value ≡ r
 value_is Desk = refl
 value_is Requests = refl
 value_is Checks = refl
+value_is Lines = refl
+value_is LineChecks = refl
+value_is Count = refl
 value_is Import = refl
+value_is Request = refl
+value_is Board = refl
 value_is Crew = refl
 value_is Pairing = refl
 value_is Exceedances = refl

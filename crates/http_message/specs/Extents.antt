@@ -2,7 +2,8 @@
 use Rattle.std.specs.Prelude.{◌≡◌, ◌⊎◌, ℕ, ◌+◌, Bool, false, List, ◌++◌, length}
 use Rattle.httparse.specs.Grammar.{RequestHead, print_request}
 use Rattle.http_message.specs.Heading.{heading}
-use Rattle.http_message.specs.Plan.{Step, plan_for_head, receive, refuse, show, show_desk}
+use Rattle.http_message.specs.Plan.{Step, plan_for_head, receive, refuse, show, show_count}
+use Rattle.http_message.specs.Plan.{show_desk}
 use Rattle.http_message.specs.Reading.{HasHead, HasNoHead}
 use Rattle.http_message.specs.declared.extents.Extent.{Extent}
 use Rattle.http_message.specs.declared.extents.Extent.TheVariants.{Known, Unknown}
@@ -17,6 +18,7 @@ body_length (refuse fault) = 0
 body_length (receive expected) = expected.length
 body_length (show what form) = 0
 body_length show_desk = 0
+body_length show_count = 0
 
 -- whether the client waits before it sends the body that a step wants
 abbrev pub waits : Step → Bool
@@ -24,6 +26,7 @@ waits (refuse fault) = false
 waits (receive expected) = expected.continues
 waits (show what form) = false
 waits show_desk = false
+waits show_count = false
 
 -- A head of this many bytes, for which this is done, and the body that is wanted settle a request.
 abbrev pub IsExtentOf : ℕ → Step → Extent → Type 0

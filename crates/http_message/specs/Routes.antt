@@ -9,20 +9,22 @@ use Rattle.matchit.specs.Router.{RouteOf}
 use Rattle.request.specs.declared.subject.Listed.TheVariants.{All, Open}
 use Rattle.request.specs.declared.subject.Subject.{Subject}
 use Rattle.request.specs.declared.subject.Subject.TheVariants as subject
-use Rattle.request.specs.Subjects.{subject_copied}
 use Rattle.http_message.specs.declared.routes.Resource.{Resource}
 use Rattle.http_message.specs.declared.routes.Resource.TheVariants as resource
 use Rattle.http_message.specs.declared.routes.Route.{Route}
 use Rattle.http_message.specs.declared.routes.Route.TheVariants.{Requests, Checks, Import, Crew}
 use Rattle.http_message.specs.declared.routes.Route.TheVariants.{Pairing, Exceedances, Limits}
 use Rattle.http_message.specs.declared.routes.Route.TheVariants.{LimitsWith, Members, Pairings}
-use Rattle.http_message.specs.declared.routes.Route.TheVariants.{OpenPairings, Desk}
+use Rattle.http_message.specs.declared.routes.Route.TheVariants.{OpenPairings, Desk, Lines}
+use Rattle.http_message.specs.declared.routes.Route.TheVariants.{LineChecks, Request, Board, Count}
 
--- what a path names: the page of the desk, commands, commands that are only checked, an import by
--- its number, or a report by its subject
+-- what a path names: the page of the desk; commands, or lines of commands, to be done or only to be
+-- checked; how many requests are kept; an import by its number; a request by its number; the board
+-- by its first and its last day; or a report by its subject
 pub data PathResource : Type 0 where
-  desk requests checks : PathResource
-  import : List ℕ → PathResource
+  desk requests checks lines line_checks count : PathResource
+  import request : List ℕ → PathResource
+  board : List ℕ → List ℕ → PathResource
   report : Subject (List ℕ) (List ℕ) → PathResource
 
 -- whether a text is an id in a path: one or more bytes without a slash
@@ -69,6 +71,11 @@ place_of_path path =
     first_or_other (exactly (codes "/") desk path)
     (first_or_other (exactly (codes "/requests") requests path)
     (first_or_other (exactly (codes "/checks") checks path)
+    (first_or_other (option_map request (id_after (codes "/requests/") path))
+    (first_or_other (exactly (codes "/lines") lines path)
+    (first_or_other (exactly (codes "/lines/checks") line_checks path)
+    (first_or_other (exactly (codes "/count") count path)
+    (first_or_other (option_map (λ days. board days.0 days.1) (ids_after (codes "/board/") path))
     (first_or_other (option_map import (id_after (codes "/imports/") path))
     (first_or_other (option_map (λ id. report (subject.Crew id)) (id_after (codes "/crew/") path))
     (first_or_other (option_map (λ id. report (subject.Pairing id))
@@ -80,15 +87,27 @@ place_of_path path =
     (ids_after (codes "/reports/limits/") path))
     (first_or_other (exactly (codes "/reports/members") (report subject.Members) path)
     (first_or_other (exactly (codes "/reports/pairings") (report (subject.Pairings All)) path)
-    (exactly (codes "/reports/open") (report (subject.Pairings Open)) path)))))))))))
+    (exactly (codes "/reports/open") (report (subject.Pairings Open)) path))))))))))))))))
 
 -- a resource as contracts see it: the place that a path names
 abbrev pub path_resource : Resource → PathResource
 path_resource resource.Desk = desk
 path_resource resource.Requests = requests
 path_resource resource.Checks = checks
+path_resource resource.Lines = lines
+path_resource resource.LineChecks = line_checks
 path_resource (resource.Import number) = import number.now
-path_resource (resource.Report what) = report (subject_copied what)
+path_resource (resource.Crew id) = report (subject.Crew id.now)
+path_resource (resource.Pairing id) = report (subject.Pairing id.now)
+path_resource resource.Exceedances = report subject.Exceedances
+path_resource (resource.Limits id) = report (subject.Limits id.now None)
+path_resource (resource.LimitsWith id other) = report (subject.Limits id.now (Some other.now))
+path_resource resource.Members = report subject.Members
+path_resource resource.Pairings = report (subject.Pairings All)
+path_resource resource.OpenPairings = report (subject.Pairings Open)
+path_resource (resource.Board first last) = board first.now last.now
+path_resource (resource.Request number) = request number.now
+path_resource resource.Count = count
 
 -- ---- What the router works with
 
@@ -101,12 +120,23 @@ abbrev pub limits_with : Option (List ℕ) → Option (List ℕ) → Option Path
 limits_with None other = None
 limits_with (Some id) other = option_map (λ other. report (subject.Limits id (Some other))) other
 
+-- the board of two days, if both were taken
+abbrev pub board_of : Option (List ℕ) → Option (List ℕ) → Option PathResource
+board_of None other = None
+board_of (Some first) other = option_map (λ last. board first last) other
+
 -- what a route leads to, by what its parameters took
 abbrev pub place_by : Route → List (List ℕ × List ℕ) → Option PathResource
 place_by Desk taken = Some desk
 place_by Requests taken = Some requests
 place_by Checks taken = Some checks
+place_by Lines taken = Some lines
+place_by LineChecks taken = Some line_checks
+place_by Count taken = Some count
 place_by Import taken = option_map import (matched.named (codes "number") taken)
+place_by Request taken = option_map request (matched.named (codes "number") taken)
+place_by Board taken =
+    board_of (matched.named (codes "from") taken) (matched.named (codes "to") taken)
 place_by Crew taken = option_map (λ id. report (subject.Crew id)) (matched.named (codes "id") taken)
 place_by Pairing taken =
     option_map (λ id. report (subject.Pairing id)) (matched.named (codes "id") taken)
@@ -128,10 +158,15 @@ row pattern text names route =
 -- the rows of the router, in the order in which it keeps them
 abbrev pub route_table : RowsOf (RouteOf Route)
 route_table =
-    row (codes "/checks") (codes "/checks") [] Checks
+    row (codes "/board/" ++ 256 ∷ 47 ∷ 256 ∷ []) (codes "/board/{from}/{to}")
+    ((8, 12) ∷ (15, 17) ∷ []) Board
+    ∷ row (codes "/checks") (codes "/checks") [] Checks
+    ∷ row (codes "/count") (codes "/count") [] Count
     ∷ row (codes "/crew/" ++ 256 ∷ []) (codes "/crew/{id}") ((7, 9) ∷ []) Crew
     ∷ row (codes "/exceedances") (codes "/exceedances") [] Exceedances
     ∷ row (codes "/imports/" ++ 256 ∷ []) (codes "/imports/{number}") ((10, 16) ∷ []) Import
+    ∷ row (codes "/lines/checks") (codes "/lines/checks") [] LineChecks
+    ∷ row (codes "/lines") (codes "/lines") [] Lines
     ∷ row (codes "/pairings/" ++ 256 ∷ []) (codes "/pairings/{id}") ((11, 13) ∷ []) Pairing
     ∷ row (codes "/reports/limits/" ++ 256 ∷ 47 ∷ 256 ∷ [])
     (codes "/reports/limits/{crew}/{pairing}") ((17, 21) ∷ (24, 31) ∷ []) LimitsWith
@@ -140,6 +175,7 @@ route_table =
     ∷ row (codes "/reports/members") (codes "/reports/members") [] Members
     ∷ row (codes "/reports/open") (codes "/reports/open") [] OpenPairings
     ∷ row (codes "/reports/pairings") (codes "/reports/pairings") [] Pairings
+    ∷ row (codes "/requests/" ++ 256 ∷ []) (codes "/requests/{number}") ((11, 17) ∷ []) Request
     ∷ row (codes "/requests") (codes "/requests") [] Requests
     ∷ row (codes "/") (codes "/") [] Desk
     ∷ []

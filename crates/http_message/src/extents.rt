@@ -88,7 +88,10 @@ fn extent_of_action(head: usize, action: &HeadAction<'_>) -> Result<Extent, Memo
 {
     let (body, waits) = match action {
         HeadAction::Receive(expected) => (expected.length, expected.continues),
-        HeadAction::Refuse(_) | HeadAction::Show(_, _) | HeadAction::ShowDesk => (0, false),
+        HeadAction::Refuse(_)
+        | HeadAction::Show(_, _)
+        | HeadAction::ShowDesk
+        | HeadAction::ShowCount => (0, false),
     };
     match head.checked_add(body) {
         Some(length) => Ok(Extent::Known(Settled { length, waits })),

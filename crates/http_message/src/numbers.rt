@@ -55,9 +55,9 @@ fn saturate(text: &[u8]) -> usize
     number
 }
 
-/// Reads the number of an import in a path.
-pub(crate) fn number_of_import(text: &[u8]) -> Option<RequestNumber>
-    ensures { result ≡ spec.import_number text.now }
+/// Reads the number in a path, of an import or of a request.
+pub(crate) fn number_in_path(text: &[u8]) -> Option<RequestNumber>
+    ensures { result ≡ spec.path_number text.now }
 {
     if !is_number(text) || text[0] == b'0' {
         return None;

@@ -5,11 +5,10 @@ ghost use Rattle.matchit.specs.Params.{AllText};
 ghost use Rattle.http_message.specs.Routes as spec;
 
 use matchit::{InsertError, Params, Router};
-use request::{Listed, Subject};
 use std::alloc::Global;
 use values::MemoryFault;
 
-/// What a path names, with the ids or the number in it.
+/// What a path names, with the ids, the number or the days in it.
 #[derive(Clone, Copy)]
 pub enum Resource<'p> {
     /// The page of the desk.
@@ -18,10 +17,34 @@ pub enum Resource<'p> {
     Requests,
     /// Commands that are only checked.
     Checks,
+    /// Lines of commands.
+    Lines,
+    /// Lines of commands that are only checked.
+    LineChecks,
     /// The import of this number.
     Import(&'p str),
-    /// The report on this.
-    Report(Subject<&'p str, &'p str>),
+    /// The roster of this member.
+    Crew(&'p str),
+    /// This pairing.
+    Pairing(&'p str),
+    /// The exceedances.
+    Exceedances,
+    /// What is nearest to each limit of this member's duties.
+    Limits(&'p str),
+    /// The same with this pairing.
+    LimitsWith(&'p str, &'p str),
+    /// The members.
+    Members,
+    /// The pairings.
+    Pairings,
+    /// The pairings with a free seat.
+    OpenPairings,
+    /// The board from this day to that.
+    Board(&'p str, &'p str),
+    /// The request of this number.
+    Request(&'p str),
+    /// How many requests are kept.
+    Count,
 }
 
 /// The routes to them.
@@ -33,8 +56,18 @@ pub enum Route {
     Requests,
     /// To commands that are only checked.
     Checks,
+    /// To lines of commands.
+    Lines,
+    /// To lines of commands that are only checked.
+    LineChecks,
     /// To imports.
     Import,
+    /// To requests.
+    Request,
+    /// To how many requests are kept.
+    Count,
+    /// To the board.
+    Board,
     /// To rosters.
     Crew,
     /// To pairings.
@@ -71,27 +104,25 @@ fn resource_at<'p>(route: Route, params: &Params<'_, 'p>) -> Option<Resource<'p>
     ensures { AllText (spec.taken params.now)
         → option_map spec.path_resource result ≡ spec.place_by route (spec.taken params.now) }
 {
-    let subject = match route {
-        Route::Desk => return Some(Resource::Desk),
-        Route::Requests => return Some(Resource::Requests),
-        Route::Checks => return Some(Resource::Checks),
-        Route::Import => return Some(Resource::Import(params.get("number")?)),
-        Route::Crew => Subject::Crew(params.get("id")?),
-        Route::Pairing => Subject::Pairing(params.get("id")?),
-        Route::Exceedances => Subject::Exceedances,
-        Route::Limits => Subject::Limits {
-            crew: params.get("crew")?,
-            with: None,
-        },
-        Route::LimitsWith => Subject::Limits {
-            crew: params.get("crew")?,
-            with: Some(params.get("pairing")?),
-        },
-        Route::Members => Subject::Members,
-        Route::Pairings => Subject::Pairings(Listed::All),
-        Route::OpenPairings => Subject::Pairings(Listed::Open),
-    };
-    Some(Resource::Report(subject))
+    Some(match route {
+        Route::Desk => Resource::Desk,
+        Route::Requests => Resource::Requests,
+        Route::Checks => Resource::Checks,
+        Route::Lines => Resource::Lines,
+        Route::LineChecks => Resource::LineChecks,
+        Route::Import => Resource::Import(params.get("number")?),
+        Route::Crew => Resource::Crew(params.get("id")?),
+        Route::Pairing => Resource::Pairing(params.get("id")?),
+        Route::Exceedances => Resource::Exceedances,
+        Route::Limits => Resource::Limits(params.get("crew")?),
+        Route::LimitsWith => Resource::LimitsWith(params.get("crew")?, params.get("pairing")?),
+        Route::Members => Resource::Members,
+        Route::Pairings => Resource::Pairings,
+        Route::OpenPairings => Resource::OpenPairings,
+        Route::Board => Resource::Board(params.get("from")?, params.get("to")?),
+        Route::Request => Resource::Request(params.get("number")?),
+        Route::Count => Resource::Count,
+    })
 }
 
 /// Makes the table of the resources.
@@ -121,5 +152,10 @@ fn add_routes(router: &mut Router<Route>) -> Result<(), InsertError>
     router.insert("/reports/pairings", Route::Pairings)?;
     router.insert("/reports/open", Route::OpenPairings)?;
     router.insert("/", Route::Desk)?;
+    router.insert("/requests/{number}", Route::Request)?;
+    router.insert("/lines", Route::Lines)?;
+    router.insert("/lines/checks", Route::LineChecks)?;
+    router.insert("/board/{from}/{to}", Route::Board)?;
+    router.insert("/count", Route::Count)?;
     Ok(())
 }

@@ -77,7 +77,7 @@ module _ {A : Type 0} (above it : StateTable) {Has : State → Database → Type
 -- ---- In a file of version 1
 
 no_rows : AreNumbered []
-no_rows = record { numbered = λ r h. absurd h; apart = λ a b h. absurd h }
+no_rows = record { numbered = λ r h. absurd h; apart = tt }
 
 -- of a table that isn't there no row is stored
 not_stored : (it : BookTable) (db : Database) → table_found db.schema it.name ≡ None → IsStored it db

@@ -33,7 +33,7 @@ use Rattle.state_rows.specs.Kept.{IsBookOf}
 use Rattle.state_rows.specs.Outcomes.{CrashAddsNothing}
 use Rattle.roster.specs.Holding.{AreJust, IsGroundOf}
 use Rattle.lookup.specs.Reads.{Shows}
-use Rattle.lookup.specs.Entries.{HasFirstRequest, HasFirstGround, ground_told, grounds_in}
+use Rattle.lookup.specs.Entries.{HasFirstRequest, HasFirstGround, ground_told, ground_ids_in}
 use Rattle.lookup.proofs.HeldLemmas.{text_same}
 use Rattle.lookup.proofs.ReadLemmas.{in_found, of_found}
 
@@ -51,7 +51,7 @@ is_told P Is old new s (Err fault) clean same left shows means told = tt
 is_told P Is old new s (Ok a) clean same left shows means told =
     (shown_still old new s same left shows, means (shows.book (left.disk clean) same.0.was_open) a told)
 
-replies_same : (a b : Reply) → reply_text a ≡ reply_text b → a ≡ b
+pub replies_same : (a b : Reply) → reply_text a ≡ reply_text b → a ≡ b
 replies_same a b e = let same : ◌≡◌ {A = Result Reply _} (Ok a) (Ok b) = sym (reply_back a) ∙ ap read_reply e ∙ reply_back b in cc
 
 -- ---- A request
@@ -118,20 +118,20 @@ module _ (s : roster.State) (sound : Sound s) (db : Database) (is_book : IsBookO
         let same : ground_told row ≡ at.0.value = λ i. record { id = known i; crew = crew i; begin = begin i; end = end i; task = task i } in
         first.0 ∙ ap Some same ∙ sym (ap (fin.get s.grounds) same_id ∙ at.0.there)
 
-  has_row : (records : List GroundRecord) (id : List ℕ) → Contains (grounds_in records) id → (it : GroundRecord) × Has (map ground_row records) (ground_row it) × (it.id ≡ id)
+  has_row : (records : List GroundRecord) (id : List ℕ) → Contains (ground_ids_in records) id → (it : GroundRecord) × Has (map ground_row records) (ground_row it) × (it.id ≡ id)
   has_row [] id c = absurd (none_in id c)
-  has_row (row ∷ rows) id c = elim (first_or_later row.id (grounds_in rows) id c) [
+  has_row (row ∷ rows) id c = elim (first_or_later row.id (ground_ids_in rows) id c) [
     | inl same ↦ (row, inl refl, same)
     | inr later ↦ let it = has_row rows id later in (it.0, inr it.1, it.2)
   ]
 
-  row_id : (records : List GroundRecord) (row : Row) (id : List ℕ) → Has (map ground_row records) row → column row 0 ≡ Text id → Contains (grounds_in records) id
+  row_id : (records : List GroundRecord) (row : Row) (id : List ℕ) → Has (map ground_row records) row → column row 0 ≡ Text id → Contains (ground_ids_in records) id
   row_id [] row id h first = absurd h
-  row_id (x ∷ xs) row id (inl same) first = is_first x.id (grounds_in xs) id (text_is (ap (λ (r : Row). column r 0) (sym same) ∙ first))
-  row_id (x ∷ xs) row id (inr later) first = is_later x.id (grounds_in xs) id (row_id xs row id later first)
+  row_id (x ∷ xs) row id (inl same) first = is_first x.id (ground_ids_in xs) id (text_is (ap (λ (r : Row). column r 0) (sym same) ∙ first))
+  row_id (x ∷ xs) row id (inr later) first = is_later x.id (ground_ids_in xs) id (row_id xs row id later first)
 
   pub grounds_are : (who : List ℕ) (records : List GroundRecord) → Finds (table ground_duty) (equals_at 1 (Text who)) db (map ground_row records) →
-      (ids : List (List ℕ)) → ids ≡ grounds_in records → AreJust (IsGroundOf s who) ids
+      (ids : List (List ℕ)) → ids ≡ ground_ids_in records → AreJust (IsGroundOf s who) ids
   grounds_are who records finds ids are = subst (AreJust (IsGroundOf s who)) (sym are) (λ id. (
     λ c.
         let it = has_row records id c in

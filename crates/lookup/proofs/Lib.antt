@@ -16,3 +16,5 @@ pub mod RecordedLemmas
 pub mod BaseLemmas
 pub mod Changes
 pub mod IdLemmas
+pub mod RequestLemmas
+pub mod CountLemmas

@@ -35,7 +35,7 @@ use Rattle.entries.specs.Faults.{Blames}
 use Rattle.entries.specs.declared.fault.LoadFault.{LoadFault}
 use Rattle.entries.specs.declared.fault.LoadFault.TheVariants.{NotABook, Version, Damaged, Fault}
 use Rattle.entries.specs.declared.fault.TableName.TheVariants as table_name
-use Rattle.lookup.specs.Outsides.{FindsOutside, HasFirstOutside, outsides_in}
+use Rattle.lookup.specs.Outsides.{FindsOutside, HasFirstOutside, outside_ids_in}
 use Rattle.lookup.specs.Plans.{IfSome, unread_as}
 use Rattle.lookup.specs.Reads.{HaveNone}
 use Rattle.lookup.specs.declared.outside.OutsideRecords.{OutsideRecords}
@@ -165,20 +165,20 @@ module _ (s : roster.State) (sound : Sound s) (db : Database) (is_book : IsBookO
 
   -- ---- The outside periods of a member
 
-  has_row : (records : List OutsideRecord) (id : List ℕ) → Contains (outsides_in records) id → (it : OutsideRecord) × Has (map outside_row records) (outside_row it) × (it.id ≡ id)
+  has_row : (records : List OutsideRecord) (id : List ℕ) → Contains (outside_ids_in records) id → (it : OutsideRecord) × Has (map outside_row records) (outside_row it) × (it.id ≡ id)
   has_row [] id c = absurd (none_in id c)
-  has_row (row ∷ rows) id c = elim (first_or_later row.id (outsides_in rows) id c) [
+  has_row (row ∷ rows) id c = elim (first_or_later row.id (outside_ids_in rows) id c) [
     | inl same ↦ (row, inl refl, same)
     | inr later ↦ let it = has_row rows id later in (it.0, inr it.1, it.2)
   ]
 
-  row_id : (records : List OutsideRecord) (row : Row) (id : List ℕ) → Has (map outside_row records) row → column row 0 ≡ Text id → Contains (outsides_in records) id
+  row_id : (records : List OutsideRecord) (row : Row) (id : List ℕ) → Has (map outside_row records) row → column row 0 ≡ Text id → Contains (outside_ids_in records) id
   row_id [] row id h first = absurd h
-  row_id (x ∷ xs) row id (inl same) first = is_first x.id (outsides_in xs) id (text_is (ap (λ (r : Row). column r 0) (sym same) ∙ first))
-  row_id (x ∷ xs) row id (inr later) first = is_later x.id (outsides_in xs) id (row_id xs row id later first)
+  row_id (x ∷ xs) row id (inl same) first = is_first x.id (outside_ids_in xs) id (text_is (ap (λ (r : Row). column r 0) (sym same) ∙ first))
+  row_id (x ∷ xs) row id (inr later) first = is_later x.id (outside_ids_in xs) id (row_id xs row id later first)
 
   pub outsides_are : (who : List ℕ) (records : List OutsideRecord) → Finds (table outside) (equals_at 1 (Text who)) db (map outside_row records) →
-      (ids : List (List ℕ)) → ids ≡ outsides_in records → AreJust (IsOutsideOf s who) ids
+      (ids : List (List ℕ)) → ids ≡ outside_ids_in records → AreJust (IsOutsideOf s who) ids
   outsides_are who records finds ids are = subst (AreJust (IsOutsideOf s who)) (sym are) (λ id. (
     λ c.
         let it = has_row records id c in

@@ -71,10 +71,11 @@ request_in : (records : List RequestRecord) (row : RequestRecord) → slice_get 
 request_in [] row here found first = absurd (cc)
 request_in (x ∷ xs) row here found first = (first.0, subst (λ (y : RequestRecord). HasTexts y first.0) (some_same here) first.2)
 
-pub no_command : (records : List RequestRecord) (row : RequestRecord) → slice_get records 0 ≡ Some row →
-    ((instruction : Instruction) → IsCommand instruction → kept_text instruction ≡ row.command → ⊥) → HaveNone (HasFirstRequest records)
-no_command records row here none found told = let it = request_in records row here found told in none it.0.command it.1.command it.1.command_text
+pub no_first : (records : List RequestRecord) (row : RequestRecord) → slice_get records 0 ≡ Some row → HaveNone (HasTexts row) → HaveNone (HasFirstRequest records)
+no_first records row here none found told = let it = request_in records row here found told in none it.0 it.1
 
-pub no_reply : (records : List RequestRecord) (row : RequestRecord) → slice_get records 0 ≡ Some row →
-    ((reply : Reply) → reply_text reply ≡ row.reply → ⊥) → HaveNone (HasFirstRequest records)
-no_reply records row here none found told = let it = request_in records row here found told in none it.0.reply it.1.reply_text
+pub no_command : (row : RequestRecord) → ((instruction : Instruction) → IsCommand instruction → kept_text instruction ≡ row.command → ⊥) → HaveNone (HasTexts row)
+no_command row none found told = none found.command told.command told.command_text
+
+pub no_reply : (row : RequestRecord) → ((reply : Reply) → reply_text reply ≡ row.reply → ⊥) → HaveNone (HasTexts row)
+no_reply row none found told = none found.reply told.reply_text

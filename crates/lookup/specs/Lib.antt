@@ -6,3 +6,5 @@ pub mod Members
 pub mod Bases
 pub mod Outsides
 pub mod Ids
+pub mod Requests
+pub mod Count

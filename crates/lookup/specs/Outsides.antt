@@ -43,5 +43,5 @@ HasFirstOutside (row ∷ rows) segments found =
     (o : OutsideEntry) × (found ≡ Some o) × IsOutsideToldBy row segments o
 
 -- some records of `outside` name these outside periods
-abbrev pub outsides_in : List OutsideRecord → List (List ℕ)
-outsides_in records = map (λ row. row.id) records
+abbrev pub outside_ids_in : List OutsideRecord → List (List ℕ)
+outside_ids_in records = map (λ row. row.id) records

@@ -11,7 +11,7 @@ ghost use Rattle.state_rows.specs.Outcomes.{IsOutside, IsOverBook};
 ghost use Rattle.state_rows.specs.Rows.{ground_duty};
 ghost use Rattle.roster.specs.Holding.{AreJust, IsGroundOf};
 ghost use Rattle.lookup.specs.Reads.{ReadsByKey, ReadsRows, HaveNone};
-ghost use Rattle.lookup.specs.Entries.{HasFirstGround, grounds_in};
+ghost use Rattle.lookup.specs.Entries.{HasFirstGround, ground_ids_in};
 
 use duty::{CrewId, Ground, GroundId};
 use sqlite::{Alter, Connection};
@@ -90,7 +90,7 @@ fn first_ground(alloc: Global, records: &[GroundRecord]) -> Result<Option<Ground
 
 /// Returns the ids of the ground duties that the records name.
 fn ids_in(alloc: Global, records: &[GroundRecord]) -> Result<Vec<GroundId>, MemoryFault>
-    ensures { IfOk result (λ ids. ids.items ≡ grounds_in records.now) }
+    ensures { IfOk result (λ ids. ids.items ≡ ground_ids_in records.now) }
 {
     let mut ids = Vec::new(alloc);
     for row in records {

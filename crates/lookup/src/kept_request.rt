@@ -11,7 +11,7 @@ ghost use Rattle.tables.specs.Rows.{begins_with};
 ghost use Rattle.state_rows.specs.Outcomes.{IsOutside, IsOverBook};
 ghost use Rattle.state_rows.specs.Rows.{request};
 ghost use Rattle.lookup.specs.Reads.{ReadsByKey, ReadsRows, HaveNone};
-ghost use Rattle.lookup.specs.Entries.{HasFirstRequest};
+ghost use Rattle.lookup.specs.Entries.{HasFirstRequest, HasTexts};
 
 use command::Key;
 use entries::{command_of, reply_of};
@@ -48,8 +48,24 @@ fn request_rows<S: Alter>(
     }
 }
 
-/// Returns the command and reply that the first of some records gives.
+/// Returns the command and reply that a record gives.
 #[tactic(auto, using(crate::proofs::RightEntries::no_command, crate::proofs::RightEntries::no_reply))]
+pub(crate) fn logged_in(alloc: Global, row: &RequestRecord) -> Result<LoggedCommand, StoreFault>
+    ensures told { IfOk result (HasTexts row.now) }
+    ensures unread { IfErr result
+        (λ fault. fault ≡ StoreFault.Store → HaveNone (HasTexts row.now)) }
+{
+    let Some(reply) = reply_of(alloc, row.reply.as_str())? else {
+        return Err(StoreFault::Store);
+    };
+    let Some(command) = command_of(alloc, row.command.as_str())? else {
+        return Err(StoreFault::Store);
+    };
+    Ok(LoggedCommand { command, reply })
+}
+
+/// Returns the command and reply that the first of some records gives.
+#[tactic(auto, using(crate::proofs::RightEntries::no_first))]
 fn first_request(
     alloc: Global,
     records: &[RequestRecord],
@@ -61,13 +77,7 @@ fn first_request(
     let Some(row) = records.first() else {
         return Ok(None);
     };
-    let Some(reply) = reply_of(alloc, row.reply.as_str())? else {
-        return Err(StoreFault::Store);
-    };
-    let Some(command) = command_of(alloc, row.command.as_str())? else {
-        return Err(StoreFault::Store);
-    };
-    Ok(Some(LoggedCommand { command, reply }))
+    Ok(Some(logged_in(alloc, row)?))
 }
 
 /// Reads what a key holds.

@@ -3,6 +3,7 @@
 #![tactic(auto)]
 
 mod bases;
+mod count;
 mod exceedance;
 mod ground;
 mod held;
@@ -11,8 +12,10 @@ mod kept_request;
 mod member;
 mod outside;
 mod pairing;
+mod under_number;
 
 pub use bases::bases_at;
+pub use count::{RequestCount, count_at};
 pub use exceedance::exceedances_at;
 pub use ground::{ground_at, grounds_held_at};
 pub use held::pairings_held_at;
@@ -21,3 +24,4 @@ pub use kept_request::request_at;
 pub use member::member_at;
 pub use outside::{outside_at, outsides_held_at};
 pub use pairing::pairing_at;
+pub use under_number::requests_at;

@@ -11,7 +11,7 @@ ghost use Rattle.state_rows.specs.Outcomes.{IsOutside, IsOverBook};
 ghost use Rattle.state_rows.specs.Rows.{outside};
 ghost use Rattle.roster.specs.Holding.{AreJust, IsOutsideOf};
 ghost use Rattle.lookup.specs.Reads.{ReadsByKey, ReadsRows, HaveNone};
-ghost use Rattle.lookup.specs.Outsides.{HasFirstOutside, ReadsOutside, outsides_in};
+ghost use Rattle.lookup.specs.Outsides.{HasFirstOutside, ReadsOutside, outside_ids_in};
 
 use crate::pairing::as_store_fault;
 use duty::{CrewId, OutsideId};
@@ -99,7 +99,7 @@ fn first_outside(
 
 /// Returns the ids of the outside periods that the records name.
 fn ids_in(alloc: Global, records: &[OutsideRecord]) -> Result<Vec<OutsideId>, MemoryFault>
-    ensures { IfOk result (λ ids. ids.items ≡ outsides_in records.now) }
+    ensures { IfOk result (λ ids. ids.items ≡ outside_ids_in records.now) }
 {
     let mut ids = Vec::new(alloc);
     for row in records {

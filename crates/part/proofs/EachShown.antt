@@ -2,11 +2,12 @@
 use Rattle.std.proofs.Common.{◌≡◌, sym, subst, refl, ℕ, List, Option, Some, None, IsSome, Result, Ok, Err}
 use Rattle.std.specs.FinMap as fin
 use Rattle.request.specs.declared.subject.Subject.{Subject}
-use Rattle.request.specs.declared.subject.Subject.TheVariants.{Crew, Limits, Pairing, Exceedances, Members, Pairings}
+use Rattle.request.specs.declared.subject.Subject.TheVariants.{Crew, Limits, Pairing, Exceedances, Members, Pairings, Board, Request}
 use Rattle.command.specs.declared.member.Member.{Member}
 use Rattle.roster.specs.State.{State}
 use Rattle.report.specs.PairingText.{pairing_text}
-use Rattle.report.proofs.EachText.{each_exceedance_text, each_members_text, each_pairings_text, each_roster}
+use Rattle.report.specs.RequestText.{request_text}
+use Rattle.report.proofs.EachText.{each_board_text, each_exceedance_text, each_members_text, each_pairings_text, each_roster}
 use Rattle.limits_report.specs.NearestLimits.{Judged, judged_duties}
 use Rattle.limits_report.proofs.EachText.{each_text}
 use Rattle.part.specs.Shown.{Absence, no_crew, no_pairing, EachIsShown, IsShown}
@@ -36,3 +37,5 @@ each_is_shown s (Pairing id) sound = of_pairing s id (pairing_text s id) refl
 each_is_shown s Exceedances sound = let text = each_exceedance_text s sound in (Ok text.0, text.1)
 each_is_shown s Members sound = let text = each_members_text s in (Ok text.0, text.1)
 each_is_shown s (Pairings which) sound = let text = each_pairings_text s which in (Ok text.0, text.1)
+each_is_shown s (Board days) sound = let text = each_board_text s days in (Ok text.0, text.1)
+each_is_shown s (Request number) sound = (Ok (request_text s number), refl)

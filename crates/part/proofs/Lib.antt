@@ -8,6 +8,8 @@ pub mod Picked
 pub mod ShownParts
 pub mod ShownTexts
 pub mod LimitsTexts
+pub mod InDays
+pub mod BoardTexts
 pub mod ShownAlike
 pub mod EachShown
 pub mod OneShown

@@ -1,8 +1,8 @@
 -- For each subject one thing at most is shown of a state.
 use Rattle.std.proofs.Common.{◌∙◌, ap, sym, subst, refl, Ok, Err, IsSome}
 use Rattle.std.proofs.lemmas.Option.{same_Some}
-use Rattle.request.specs.declared.subject.Subject.TheVariants.{Crew, Limits, Pairing, Exceedances, Members, Pairings}
-use Rattle.report.proofs.OneText.{one_exceedance_text, one_members_text, one_pairings_text, one_roster}
+use Rattle.request.specs.declared.subject.Subject.TheVariants.{Crew, Limits, Pairing, Exceedances, Members, Pairings, Board, Request}
+use Rattle.report.proofs.OneText.{one_board_text, one_exceedance_text, one_members_text, one_pairings_text, one_roster}
 use Rattle.limits_report.proofs.OneText.{one_text}
 use Rattle.part.specs.Shown.{no_crew, no_pairing, HasOneShown}
 
@@ -39,3 +39,9 @@ one_shown s Members (Err absence) b is is' = absurd is
 one_shown s (Pairings which) (Ok a) (Ok b) is is' = ap Ok (one_pairings_text s which a b is is')
 one_shown s (Pairings which) (Ok a) (Err absence) is is' = absurd is'
 one_shown s (Pairings which) (Err absence) b is is' = absurd is
+one_shown s (Board days) (Ok a) (Ok b) is is' = ap Ok (one_board_text s days a b is is')
+one_shown s (Board days) (Ok a) (Err absence) is is' = absurd is'
+one_shown s (Board days) (Err absence) b is is' = absurd is
+one_shown s (Request number) (Ok a) (Ok b) is is' = ap Ok (is ∙ sym is')
+one_shown s (Request number) (Ok a) (Err absence) is is' = absurd is'
+one_shown s (Request number) (Err absence) b is is' = absurd is

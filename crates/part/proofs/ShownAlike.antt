@@ -1,10 +1,12 @@
 -- What is shown of the part that is handed out for a text is what is shown of the state.
 use Rattle.std.proofs.Common.{◌↔◌, sym, subst, ◌∙◌, ℕ, List, Result, Ok, Err, Option, IsSome}
 use Rattle.request.specs.declared.subject.Subject.{Subject}
-use Rattle.request.specs.declared.subject.Subject.TheVariants.{Crew, Limits, Pairing, Exceedances, Members, Pairings}
+use Rattle.request.specs.declared.subject.Subject.TheVariants.{Crew, Limits, Pairing, Exceedances, Members, Pairings, Board, Request}
 use Rattle.request.specs.declared.subject.Listed.{Listed}
 use Rattle.roster.specs.State.{State}
 use Rattle.part.specs.Shown.{Absence, no_crew, no_pairing, IsShown, PartIsShownAlike, shown_part}
+use Rattle.request.specs.Days.{Days}
+use Rattle.part.proofs.BoardTexts.{board_shown_text, request_shown_text}
 use Rattle.part.proofs.LimitsTexts.{judged_same, limits_shown_text}
 use Rattle.part.proofs.ShownTexts.{crew_same, exceedance_shown_text, member_text, pairing_shown_text, pairings_shown_text}
 
@@ -42,6 +44,14 @@ module _ (s : State) where
   of_pairings which (Ok text) = pairings_shown_text s which text
   of_pairings which (Err absence) = (λ never. never, λ never. never)
 
+  of_board : (days : Days) → Alike (Board days)
+  of_board days (Ok text) = board_shown_text s days text
+  of_board days (Err absence) = (λ never. never, λ never. never)
+
+  of_request : (number : ℕ) → Alike (Request number)
+  of_request number (Ok text) = let same = request_shown_text s number in (λ is. is ∙ same, λ is. is ∙ sym same)
+  of_request number (Err absence) = (λ never. never, λ never. never)
+
 pub part_is_shown_alike : PartIsShownAlike
 part_is_shown_alike s (Crew who) = of_member s who
 part_is_shown_alike s (Limits who named) = of_limits s who named
@@ -49,3 +59,5 @@ part_is_shown_alike s (Pairing id) = of_pairing s id
 part_is_shown_alike s Exceedances = of_exceedances s
 part_is_shown_alike s Members = of_members s
 part_is_shown_alike s (Pairings which) = of_pairings s which
+part_is_shown_alike s (Board days) = of_board s days
+part_is_shown_alike s (Request number) = of_request s number

@@ -1,21 +1,28 @@
 -- What is shown of a state: which text it is, or why there is none; and the part of the state that
 -- is handed out for the text.
-use Rattle.std.specs.Prelude.{◌≡◌, ◌↔◌, false, ◌||◌, ℕ, Bool, List, Option, Some, None, IsSome}
-use Rattle.std.specs.Prelude.{Result, Ok, Err}
+use Rattle.std.specs.Prelude.{◌≡◌, ◌↔◌, false, ◌||◌, ◌&&◌, ◌==◌, ℕ, Bool, List, Option, Some, None}
+use Rattle.std.specs.Prelude.{IsSome, Result, Ok, Err}
 use Rattle.std.specs.FinMap as fin
 use Rattle.std.specs.Option.{option_map_or}
 use Rattle.std.specs.Str.{bytes_eq}
 use Rattle.request.specs.declared.subject.Subject.{Subject}
 use Rattle.request.specs.declared.subject.Subject.TheVariants.{Crew, Limits, Pairing, Exceedances}
-use Rattle.request.specs.declared.subject.Subject.TheVariants.{Members, Pairings}
+use Rattle.request.specs.declared.subject.Subject.TheVariants.{Members, Pairings, Board}
+use Rattle.request.specs.declared.subject.Subject.TheVariants.{Request}
+use Rattle.request.specs.Days.{Days}
 use Rattle.limits_report.specs.LimitsText.{IsLimitsText}
 use Rattle.limits_report.specs.NearestLimits.{judged_duties}
+use Rattle.report.specs.Board.{ground_meets, has_period_in, outside_meets}
+use Rattle.report.specs.BoardText.{IsBoardText}
 use Rattle.report.specs.ExceedanceText.{IsExceedanceText}
+use Rattle.report.specs.Kept.{number_in}
 use Rattle.report.specs.MembersText.{IsMembersText}
 use Rattle.report.specs.PairingText.{pairing_text}
 use Rattle.report.specs.PairingsText.{IsPairingsText}
+use Rattle.report.specs.RequestText.{request_text}
 use Rattle.report.specs.RosterText.{IsRosterText}
 use Rattle.roster.specs.Pairings.{holds}
+use Rattle.roster.specs.Refusals.{is_member}
 use Rattle.roster.specs.Sound.{Sound}
 use Rattle.roster.specs.State.{State}
 
@@ -26,7 +33,8 @@ pub data Absence : Type 0 where
   no_crew no_pairing : Absence
 
 -- what is shown of a state: the text of a member's roster, of a member's limits, of a pairing, of
--- the exceedances, of the members or of pairings; or that there is none, and why
+-- the exceedances, of the members, of pairings, of the board of some days, or of what is kept under
+-- a number; or that there is none, and why
 abbrev pub IsShown : State → Subject (List ℕ) (List ℕ) → Result (List ℕ) Absence → Type 0
 IsShown s (Crew who) (Ok text) = IsRosterText s who text
 IsShown s (Crew who) (Err no_crew) = fin.get s.crew who ≡ None
@@ -44,6 +52,10 @@ IsShown s Members (Ok text) = IsMembersText s text
 IsShown s Members (Err absence) = ⊥
 IsShown s (Pairings which) (Ok text) = IsPairingsText s which text
 IsShown s (Pairings which) (Err absence) = ⊥
+IsShown s (Board days) (Ok text) = IsBoardText s days text
+IsShown s (Board days) (Err absence) = ⊥
+IsShown s (Request number) (Ok text) = text ≡ request_text s number
+IsShown s (Request number) (Err absence) = ⊥
 
 -- ---- The parts
 
@@ -134,6 +146,49 @@ exceedances_part s = record {
   requests = fin.empty;
 }
 
+-- the pairing with this id has a period that meets the days
+abbrev pub is_pairing_in : State → Days → List ℕ → Bool
+is_pairing_in s days id = option_map_or (has_period_in days) (fin.get s.pairings id) false
+
+-- the ground duty with this id is a member's and meets the days
+abbrev pub is_ground_in : State → Days → List ℕ → Bool
+is_ground_in s days id =
+    option_map_or (λ g. is_member s g.crew && ground_meets days g) (fin.get s.grounds id) false
+
+-- the outside period with this id is a member's and meets the days
+abbrev pub is_outside_in : State → Days → List ℕ → Bool
+is_outside_in s days id =
+    option_map_or (λ o. is_member s o.crew && outside_meets days o) (fin.get s.outsides id) false
+
+-- the part of a state with all its bases, members and exceedances, the pairings of which a period
+-- meets the days, and the members' ground duties and outside periods that do
+abbrev pub board_part : State → Days → State
+board_part s days = record {
+  bases = s.bases;
+  crew = s.crew;
+  pairings = fin.retain_keys s.pairings (is_pairing_in s days);
+  grounds = fin.retain_keys s.grounds (is_ground_in s days);
+  outsides = fin.retain_keys s.outsides (is_outside_in s days);
+  exceedances = s.exceedances;
+  requests = fin.empty;
+}
+
+-- whether a key, by its name, is that of a part of the request with this number
+abbrev pub is_under : (number : ℕ) → (name : List ℕ) → Bool
+is_under number name = number_in name == number
+
+-- the part of a state with all its bases, and what is kept under the number of a request
+abbrev pub request_part : State → (number : ℕ) → State
+request_part s number = record {
+  bases = s.bases;
+  crew = fin.empty;
+  pairings = fin.empty;
+  grounds = fin.empty;
+  outsides = fin.empty;
+  exceedances = fin.empty;
+  requests = fin.retain_keys s.requests (is_under number);
+}
+
 -- the part of a state that is handed out for a text, and no more
 abbrev pub shown_part : State → Subject (List ℕ) (List ℕ) → State
 shown_part s (Crew who) = member_part s who
@@ -142,6 +197,8 @@ shown_part s (Pairing id) = pairing_part s id
 shown_part s Exceedances = exceedances_part s
 shown_part s Members = crew_part s
 shown_part s (Pairings which) = pairings_part s
+shown_part s (Board days) = board_part s days
+shown_part s (Request number) = request_part s number
 
 -- ---- Laws
 

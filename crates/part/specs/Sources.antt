@@ -1,5 +1,6 @@
 -- What a source that is read by key says of the state that the source shows.
-use Rattle.std.specs.Prelude.{◌≡◌, ◌⊎◌, ◌++◌, List, map, ℕ, Option, Result, IfOk, Some}
+use Rattle.std.specs.Prelude.{◌≡◌, ◌⊎◌, ◌++◌, if◌then◌else◌, Bool, List, map, ℕ, Option, Result, IfOk}
+use Rattle.std.specs.Prelude.{Some, None}
 use Rattle.std.specs.FinMap as fin
 use Rattle.std.specs.List.{Contains, fold, flat_map}
 use Rattle.std.specs.Option.{option_map_or}
@@ -40,6 +41,22 @@ abbrev pub picked :
     {V : Type 0} → fin.FinMap name_cmp V → fin.FinMap name_cmp V → List (List ℕ)
     → fin.FinMap name_cmp V
 picked from to ids = fold (pick from) to ids
+
+-- a value that passes a test, or nothing
+abbrev pub if_passes : {V : Type 0} → (V → Bool) → Option V → Option V
+if_passes test None = None
+if_passes test (Some value) = if test value then Some value else None
+
+-- a map with what another map has under this id, if that passes a test
+abbrev pub pick_where : {V : Type 0} → (V → Bool) → fin.FinMap name_cmp V → fin.FinMap name_cmp V
+    → List ℕ → fin.FinMap name_cmp V
+pick_where test from to id =
+    option_map_or (λ value. fin.insert to id value) (if_passes test (fin.get from id)) to
+
+-- a map with what another map has under these ids and passes a test, put in one after the other
+abbrev pub picked_where : {V : Type 0} → (V → Bool) → fin.FinMap name_cmp V
+    → fin.FinMap name_cmp V → List (List ℕ) → fin.FinMap name_cmp V
+picked_where test from to ids = fold (pick_where test from) to ids
 
 -- a map with what another map has under the named id, if one is named
 abbrev pub pick_named :

@@ -47,7 +47,7 @@ fn held_by_one<S: Source>(
 }
 
 /// Reads the ids of some members' ground duties.
-fn grounds_of_one<S: Source>(
+pub(crate) fn grounds_of_one<S: Source>(
     alloc: Global,
     source: &mut S,
     judged: &[CrewId],
@@ -68,7 +68,7 @@ fn grounds_of_one<S: Source>(
 }
 
 /// Reads the ids of some members' outside periods.
-fn outsides_of_one<S: Source>(
+pub(crate) fn outsides_of_one<S: Source>(
     alloc: Global,
     source: &mut S,
     judged: &[CrewId],

@@ -3,6 +3,7 @@
 #![tactic(auto)]
 
 mod gathering;
+mod in_days;
 mod judging;
 pub mod laws;
 mod named;

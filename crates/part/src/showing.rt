@@ -1,5 +1,5 @@
-//! What is shown of a member, of a member's limits, of a pairing, or of all members, pairings or exceedances, gathered
-//! from a source. Its definition is `shown_part` (`specs/Shown.antt`).
+//! What is shown of a member, of a member's limits, of a pairing, of all members, pairings or exceedances, of the board of
+//! some days, or of a request, gathered from a source. Its definition is `shown_part` (`specs/Shown.antt`).
 //! Through the program: `tests/reports.py`. Wrong bodies: `must-fail-more/`.
 
 ghost use Rattle.std.specs.Prelude.{◌≡◌, IfErr, OnOk};
@@ -7,14 +7,15 @@ ghost use Rattle.std.specs.FinMap as fin;
 ghost use Rattle.std.specs.Option.{option_copied};
 ghost use Rattle.std.specs.Str.{bytes_eq};
 ghost use Rattle.roster.specs.Holding.{AreJust, IsGroundOf, IsHeldBy, IsOutsideOf};
-ghost use Rattle.part.specs.Shown.{crew_part, exceedances_part, limits_part, member_part, pairing_part, pairings_part, shown_part};
+ghost use Rattle.part.specs.Shown.{crew_part, exceedances_part, limits_part, member_part, pairing_part, pairings_part, request_part, shown_part};
 ghost use Rattle.part.specs.Sources.{IsCauseOfGathering, TellsOfState, pick_named};
 
+use crate::in_days::gather_board;
 use crate::pick::{pick_grounds, pick_members, pick_outsides, pick_pairings, put_found};
 use crate::source::Source;
 use command::Member;
 use duty::{CrewId, GroundId, OutsideId, PairingId};
-use request::Subject;
+use request::{RequestNumber, Subject};
 use roster::{PairingEntry, Roster};
 use std::alloc::Global;
 use values::OrdMap;
@@ -186,6 +187,33 @@ fn gather_pairing<S: Source>(
     })
 }
 
+/// Gathers what is kept under the number of a request alone.
+fn gather_request<S: Source>(
+    alloc: Global,
+    source: &mut S,
+    number: RequestNumber,
+) -> Result<Roster, S::Fault>
+    ensures told { TellsOfState S.is_clean S.shows
+        (λ s it. it ≡ request_part s number) source.old source.new result }
+    ensures left { S.stays source.old source.new }
+    ensures caused { IfErr result
+        (IsCauseOfGathering S.fails S.Fault.from_gives source.old source.new) }
+    ensures serves { OnOk result (S.serves source.old source.new) }
+    ensures there { OnOk result (S.is_there source.new) }
+{
+    let requests = source.requests_of(alloc, number)?;
+    let bases = source.bases(alloc)?;
+    Ok(Roster {
+        bases,
+        crew: OrdMap::new(alloc),
+        pairings: OrdMap::new(alloc),
+        grounds: OrdMap::new(alloc),
+        outsides: OrdMap::new(alloc),
+        exceedances: OrdMap::new(alloc),
+        requests,
+    })
+}
+
 /// Gathers all members alone.
 fn gather_crew<S: Source>(alloc: Global, source: &mut S) -> Result<Roster, S::Fault>
     ensures told { TellsOfState S.is_clean S.shows
@@ -280,5 +308,7 @@ pub fn gather_shown<S: Source>(
         Subject::Exceedances => gather_exceedances(alloc, source),
         Subject::Members => gather_crew(alloc, source),
         Subject::Pairings(_) => gather_pairings(alloc, source),
+        Subject::Board(days) => gather_board(alloc, source, *days),
+        Subject::Request(number) => gather_request(alloc, source, *number),
     }
 }

@@ -6,10 +6,12 @@ ghost use Rattle.command.specs.Keys.{key_name};
 ghost use Rattle.roster.specs.State.{State};
 ghost use Rattle.roster.specs.Holding.{IsHeldBy, IsGroundOf, IsOutsideOf, AreJust};
 ghost use Rattle.roster.specs.Refusals.{is_member, is_pairing};
+ghost use Rattle.part.specs.Shown.{is_under};
 ghost use Rattle.part.specs.Sources.{TellsOfState};
 
 use command::{Key, Member};
 use duty::{CrewId, Ground, GroundId, OutsideId, PairingId};
+use request::RequestNumber;
 use roster::{Bases, DutyId, ExceedanceId, LoggedCommand, OutsideEntry, PairingEntry};
 use std::alloc::Global;
 use values::{MemoryFault, OrdMap};
@@ -67,6 +69,19 @@ pub trait Source {
         ensures caused { IfErr result (fails self.old self.new) }
         ensures serves { OnOk result (serves self.old self.new) }
         ensures there { OnOk result (is_there self.new) };
+
+    /// Reads what is kept under the number of a request.
+    fn requests_of(
+        &mut self,
+        alloc: Global,
+        number: RequestNumber,
+    ) -> Result<OrdMap<Key, LoggedCommand>, Self::Fault>
+        ensures told { TellsOfState is_clean shows
+            (λ s found. found ≡ fin.retain_keys s.requests (is_under number))
+            self.old self.new result }
+        ensures left { stays self.old self.new }
+        ensures caused { IfErr result (fails self.old self.new) }
+        ensures serves { OnOk result (serves self.old self.new) };
 
     /// Reads the member of an id.
     fn member(&mut self, alloc: Global, id: &CrewId) -> Result<Option<Member>, Self::Fault>

@@ -7,7 +7,7 @@ use Rattle.std.specs.Prelude.{codes}
 use Rattle.std.specs.Str.{bytes_eq}
 use Rattle.serde_json.specs.Data.{string}
 use Rattle.request.specs.declared.subject.Subject.{Subject}
-use Rattle.request.specs.declared.subject.Subject.TheVariants.{Crew, Limits, Pairing, Exceedances, Members, Pairings}
+use Rattle.request.specs.declared.subject.Subject.TheVariants.{Crew, Limits, Pairing, Exceedances, Members, Pairings, Board, Request}
 use Rattle.request.specs.declared.subject.Listed.{Listed}
 use Rattle.command.specs.Texts.{seat_text}
 use Rattle.command.specs.declared.member.Member.{Member}
@@ -24,6 +24,8 @@ use Rattle.report_json.specs.LimitsJson.{IsLimitsJson}
 use Rattle.report_json.specs.Objects.{json_text}
 use Rattle.report_json.specs.PairingJson.{entry_json, pairing_json}
 use Rattle.report_json.specs.RosterJson.{duties_json, ground_duty_json, outside_duty_json, period_duties_json, roster_json}
+use Rattle.request.specs.Days.{Days}
+use Rattle.part_json.proofs.BoardSame.{board_same, request_same}
 use Rattle.part_json.specs.ShownJson.{IsShownJson, PartIsShownAlikeJson}
 
 -- ---- The values of the parts
@@ -111,6 +113,14 @@ module _ (s : State) where
   of_pairings which (Ok text) = (λ is. is, λ is. is)
   of_pairings which (Err absence) = (λ never. never, λ never. never)
 
+  of_board : (days : Days) → Alike (Board days)
+  of_board days (Ok text) = let same = ap json_text (board_same s days) in (λ is. is ∙ same, λ is. is ∙ sym same)
+  of_board days (Err absence) = (λ never. never, λ never. never)
+
+  of_request : (number : ℕ) → Alike (Request number)
+  of_request number (Ok text) = let same = ap json_text (request_same s number) in (λ is. is ∙ same, λ is. is ∙ sym same)
+  of_request number (Err absence) = (λ never. never, λ never. never)
+
 pub part_is_shown_alike_json : PartIsShownAlikeJson
 part_is_shown_alike_json s (Crew who) = of_member s who
 part_is_shown_alike_json s (Limits who named) = of_limits s who named
@@ -118,3 +128,5 @@ part_is_shown_alike_json s (Pairing id) = of_pairing s id
 part_is_shown_alike_json s Exceedances = of_exceedances s
 part_is_shown_alike_json s Members = of_members s
 part_is_shown_alike_json s (Pairings which) = of_pairings s which
+part_is_shown_alike_json s (Board days) = of_board s days
+part_is_shown_alike_json s (Request number) = of_request s number

@@ -3,14 +3,16 @@ use Rattle.std.proofs.Common.{◌≡◌, ap, sym, subst, refl, ℕ, List, Option
 use Rattle.std.specs.FinMap as fin
 use Rattle.std.specs.Option.{option_map}
 use Rattle.request.specs.declared.subject.Subject.{Subject}
-use Rattle.request.specs.declared.subject.Subject.TheVariants.{Crew, Limits, Pairing, Exceedances, Members, Pairings}
+use Rattle.request.specs.declared.subject.Subject.TheVariants.{Crew, Limits, Pairing, Exceedances, Members, Pairings, Board, Request}
 use Rattle.command.specs.declared.member.Member.{Member}
 use Rattle.roster.specs.State.{State}
 use Rattle.roster.specs.declared.state.PairingEntry.{PairingEntry}
 use Rattle.limits_report.specs.NearestLimits.{Judged, judged_duties}
 use Rattle.part.specs.Shown.{Absence, no_crew, no_pairing}
 use Rattle.report_json.proofs.EachJson.{each_exceedances_json, each_limits_json}
+use Rattle.report_json.specs.BoardJson.{board_json}
 use Rattle.report_json.specs.MembersJson.{members_json}
+use Rattle.report_json.specs.RequestJson.{request_json}
 use Rattle.report_json.specs.Objects.{json_text}
 use Rattle.report_json.specs.PairingJson.{entry_json}
 use Rattle.report_json.specs.PairingsJson.{pairings_json}
@@ -44,3 +46,5 @@ each_is_shown_json s (Pairing id) sound = of_pairing s id (fin.get s.pairings id
 each_is_shown_json s Exceedances sound = let text = each_exceedances_json s sound in (Ok text.0, text.1)
 each_is_shown_json s Members sound = (Ok (json_text (members_json s)), refl)
 each_is_shown_json s (Pairings which) sound = (Ok (json_text (pairings_json s which)), refl)
+each_is_shown_json s (Board days) sound = (Ok (json_text (board_json s days)), refl)
+each_is_shown_json s (Request number) sound = (Ok (json_text (request_json s number)), refl)

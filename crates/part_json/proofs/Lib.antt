@@ -1,3 +1,4 @@
+pub mod BoardSame
 pub mod Alike
 pub mod Each
 pub mod One

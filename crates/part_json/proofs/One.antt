@@ -2,7 +2,7 @@
 use Rattle.std.proofs.Common.{◌∙◌, ap, sym, subst, refl, Ok, Err, IsSome}
 use Rattle.std.specs.Option.{option_map}
 use Rattle.std.proofs.lemmas.Option.{same_Some}
-use Rattle.request.specs.declared.subject.Subject.TheVariants.{Crew, Limits, Pairing, Exceedances, Members, Pairings}
+use Rattle.request.specs.declared.subject.Subject.TheVariants.{Crew, Limits, Pairing, Exceedances, Members, Pairings, Board, Request}
 use Rattle.part.specs.Shown.{no_crew, no_pairing}
 use Rattle.report_json.proofs.OneJson.{one_exceedances_json, one_limits_json}
 use Rattle.report_json.specs.Objects.{json_text}
@@ -43,3 +43,9 @@ one_shown_json s Members (Err absence) b is is' = absurd is
 one_shown_json s (Pairings which) (Ok a) (Ok b) is is' = ap Ok (is ∙ sym is')
 one_shown_json s (Pairings which) (Ok a) (Err absence) is is' = absurd is'
 one_shown_json s (Pairings which) (Err absence) b is is' = absurd is
+one_shown_json s (Board days) (Ok a) (Ok b) is is' = ap Ok (is ∙ sym is')
+one_shown_json s (Board days) (Ok a) (Err absence) is is' = absurd is'
+one_shown_json s (Board days) (Err absence) b is is' = absurd is
+one_shown_json s (Request number) (Ok a) (Ok b) is is' = ap Ok (is ∙ sym is')
+one_shown_json s (Request number) (Ok a) (Err absence) is is' = absurd is'
+one_shown_json s (Request number) (Err absence) b is is' = absurd is

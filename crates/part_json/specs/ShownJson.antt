@@ -5,21 +5,25 @@ use Rattle.std.specs.FinMap as fin
 use Rattle.std.specs.Option.{option_map}
 use Rattle.request.specs.declared.subject.Subject.{Subject}
 use Rattle.request.specs.declared.subject.Subject.TheVariants.{Crew, Limits, Pairing, Exceedances}
-use Rattle.request.specs.declared.subject.Subject.TheVariants.{Members, Pairings}
+use Rattle.request.specs.declared.subject.Subject.TheVariants.{Members, Pairings, Board}
+use Rattle.request.specs.declared.subject.Subject.TheVariants.{Request}
 use Rattle.roster.specs.Sound.{Sound}
 use Rattle.roster.specs.State.{State}
 use Rattle.limits_report.specs.NearestLimits.{judged_duties}
 use Rattle.part.specs.Shown.{Absence, no_crew, no_pairing, shown_part}
+use Rattle.report_json.specs.BoardJson.{board_json}
 use Rattle.report_json.specs.ExceedancesJson.{IsExceedancesJson}
 use Rattle.report_json.specs.LimitsJson.{IsLimitsJson}
 use Rattle.report_json.specs.MembersJson.{members_json}
 use Rattle.report_json.specs.Objects.{json_text}
 use Rattle.report_json.specs.PairingJson.{pairing_json}
 use Rattle.report_json.specs.PairingsJson.{pairings_json}
+use Rattle.report_json.specs.RequestJson.{request_json}
 use Rattle.report_json.specs.RosterJson.{roster_json}
 
 -- what is shown of a state as JSON: the text of a member's roster, of a member's limits, of a
--- pairing, of the exceedances, of the members or of pairings; or that there is none, and why
+-- pairing, of the exceedances, of the members, of pairings, of the board of some days, or of what
+-- is kept under a number; or that there is none, and why
 abbrev pub IsShownJson : State → Subject (List ℕ) (List ℕ) → Result (List ℕ) Absence → Type 0
 IsShownJson s (Crew who) (Ok text) = option_map json_text (roster_json s who) ≡ Some text
 IsShownJson s (Crew who) (Err no_crew) = fin.get s.crew who ≡ None
@@ -37,6 +41,10 @@ IsShownJson s Members (Ok text) = text ≡ json_text (members_json s)
 IsShownJson s Members (Err absence) = ⊥
 IsShownJson s (Pairings which) (Ok text) = text ≡ json_text (pairings_json s which)
 IsShownJson s (Pairings which) (Err absence) = ⊥
+IsShownJson s (Board days) (Ok text) = text ≡ json_text (board_json s days)
+IsShownJson s (Board days) (Err absence) = ⊥
+IsShownJson s (Request number) (Ok text) = text ≡ json_text (request_json s number)
+IsShownJson s (Request number) (Err absence) = ⊥
 
 -- ---- Laws
 

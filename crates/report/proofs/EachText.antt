@@ -1,12 +1,13 @@
--- A member who is there has a roster; the exceedances of a sound state, the members and the pairings have a text; and each pairing
--- of a sound state has a period.
+-- A member who is there has a roster; the exceedances of a sound state, the members, the pairings and the board of some days have a
+-- text; and each pairing of a sound state has a period.
 use Rattle.std.proofs.Common.{◌≡◌, ◌<◌, ◌++◌, refl, sym, ap₂, ℕ, List, [], ◌∷◌, length, map, Contains, Option, None, arith}
 use Rattle.std.specs.FinMap as fin
-use Rattle.std.specs.List.{flat_map, zip, list_all}
+use Rattle.std.specs.List.{AllZip, concat, flat_map, zip, list_all}
 use Rattle.std.specs.Ordering.{is_lt}
 use Rattle.std.proofs.lemmas.Cmp.{nat_list_cmp_total}
 use Rattle.std.proofs.lemmas.List.Sorted.{ranks_by}
 use Rattle.values.specs.Name.{name_cmp, named_rows}
+use Rattle.request.specs.Days.{Days}
 use Rattle.duty.specs.Pairings.{pairing_fault, count_fault, times_fault, chain_fault, are_shaped}
 use Rattle.duty.specs.Plans.{ActualTimes}
 use Rattle.duty.specs.Shape.{is_id}
@@ -14,6 +15,7 @@ use Rattle.duty.specs.Words.{unless}
 use Rattle.duty.specs.declared.fault.DutyFault.TheVariants.{BadField}
 use Rattle.duty.specs.declared.fault.Field.TheVariants as field
 use Rattle.duty.specs.declared.fdp.Fdp.{Fdp}
+use Rattle.command.specs.declared.member.Member.{Member}
 use Rattle.roster.specs.Pairings.{flown}
 use Rattle.roster.specs.Sound.{SoundExceedance}
 use Rattle.roster.specs.State.{State, exceedance_name}
@@ -21,8 +23,9 @@ use Rattle.roster.specs.declared.state.DutyId.{DutyId}
 use Rattle.roster.specs.declared.state.ExceedanceId.{ExceedanceId}
 use Rattle.roster.proofs.Members.{from_rows, is_first, is_later}
 use Rattle.roster.proofs.Sound.Added.{no_first}
+use Rattle.report.specs.BoardText.{IsMemberInDays, board_header, lines_in, open_header, open_rows}
 use Rattle.report.specs.ExceedanceText.{ExceedanceEntry, exceedances_header, line}
-use Rattle.report.specs.Laws.{EachHasExceedanceText, EachHasMembersText, EachHasPairingsText, EachHasPeriod, EachHasRoster}
+use Rattle.report.specs.Laws.{EachHasBoardText, EachHasExceedanceText, EachHasMembersText, EachHasPairingsText, EachHasPeriod, EachHasRoster}
 use Rattle.report.specs.Lines.{AreLinesInOrder, key_of}
 use Rattle.report.specs.MembersText.{member_line, members_header}
 use Rattle.report.specs.PairingsText.{AreRowsInOrder, row_key, pairings_header, listed_rows}
@@ -79,6 +82,34 @@ pub each_pairings_text : EachHasPairingsText
 each_pairings_text s which =
     let rows = rows_order (listed_rows s which) in
     (pairings_header (length rows.0) ++ flat_map (λ row. row.line) rows.0, record { rows = rows.0; in_order = rows.1; is = refl })
+
+-- ---- The board
+
+each_member : (s : State) (days : Days) (entry : List ℕ × Member) → (text : List ℕ) × IsMemberInDays s days entry text
+each_member s days entry =
+    let lines = lines_order (lines_in days s entry.0) in
+    (roster_header entry.0 entry.1 ++ flat_map (λ line. line.text) lines.0, record { lines = lines.0; in_order = lines.1; is = refl })
+
+all_members : (s : State) (days : Days) (entries : List (List ℕ × Member)) → (texts : List (List ℕ)) × AllZip (IsMemberInDays s days) entries texts
+all_members s days [] = ([], tt)
+all_members s days (entry ∷ entries) =
+    let first = each_member s days entry in
+    let rest = all_members s days entries in
+    (first.0 ∷ rest.0, (first.1, rest.1))
+
+pub each_board_text : EachHasBoardText
+each_board_text s days =
+    let members = all_members s days (fin.entries s.crew) in
+    let rows = rows_order (open_rows days s) in (
+      board_header days ++ concat members.0 ++ open_header (length rows.0) ++ flat_map (λ row. row.line) rows.0,
+      record {
+        members = members.0;
+        are_members = members.1;
+        rows = rows.0;
+        in_order = rows.1;
+        is = refl;
+      },
+    )
 
 -- ---- Periods
 

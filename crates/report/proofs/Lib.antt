@@ -1,3 +1,4 @@
+pub mod BoardLemmas
 pub mod EachOrder
 pub mod EachText
 pub mod ExceedanceRows

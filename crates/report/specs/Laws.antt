@@ -1,12 +1,14 @@
 -- What holds of the texts of each state.
 use Rattle.std.specs.Prelude.{◌≡◌, ◌<◌, ℕ, List, length, Some}
 use Rattle.std.specs.FinMap as fin
+use Rattle.request.specs.Days.{Days}
 use Rattle.request.specs.declared.subject.Listed.{Listed}
 use Rattle.command.specs.declared.member.Member.{Member}
 use Rattle.roster.specs.Pairings.{periods_in_force}
 use Rattle.roster.specs.Sound.{Sound}
 use Rattle.roster.specs.State.{State}
 use Rattle.roster.specs.declared.state.PairingEntry.{PairingEntry}
+use Rattle.report.specs.BoardText.{IsBoardText}
 use Rattle.report.specs.ExceedanceText.{IsExceedanceText}
 use Rattle.report.specs.MembersText.{IsMembersText}
 use Rattle.report.specs.PairingsText.{IsPairingsText}
@@ -47,6 +49,16 @@ EachHasPairingsText = (s : State) (which : Listed) → (text : List ℕ) × IsPa
 abbrev pub HasOnePairingsText : Type 0
 HasOnePairingsText = (s : State) (which : Listed) (a b : List ℕ) → IsPairingsText s which a →
     IsPairingsText s which b → a ≡ b
+
+-- The board of each days has a text in each state.
+abbrev pub EachHasBoardText : Type 0
+EachHasBoardText = (s : State) (days : Days) → (text : List ℕ) × IsBoardText s days text
+
+-- The board of some days has at most one text, since the lines of a member have one order, and so
+-- have the rows of the open pairings.
+abbrev pub HasOneBoardText : Type 0
+HasOneBoardText = (s : State) (days : Days) (a b : List ℕ) → IsBoardText s days a →
+    IsBoardText s days b → a ≡ b
 
 -- Each pairing of a sound state has a period in force: the pairing's line has the times of periods.
 abbrev pub EachHasPeriod : Type 0

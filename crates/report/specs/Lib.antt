@@ -7,3 +7,7 @@ pub mod PairingText
 pub mod ExceedanceText
 pub mod MembersText
 pub mod PairingsText
+pub mod Board
+pub mod BoardText
+pub mod Kept
+pub mod RequestText

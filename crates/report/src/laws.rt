@@ -1,5 +1,5 @@
 //! What holds of the texts of each roster. Each of these functions does nothing; its clause is a law.
-ghost use Rattle.report.specs.Laws.{EachHasExceedanceText, EachHasMembersText, EachHasPairingsText, EachHasPeriod, EachHasRoster, HasOneExceedanceText, HasOneMembersText, HasOnePairingsText, HasOneRoster};
+ghost use Rattle.report.specs.Laws.{EachHasBoardText, EachHasExceedanceText, EachHasMembersText, EachHasPairingsText, EachHasPeriod, EachHasRoster, HasOneBoardText, HasOneExceedanceText, HasOneMembersText, HasOnePairingsText, HasOneRoster};
 
 /// A member who is there has a roster.
 pub fn each_roster()
@@ -39,6 +39,16 @@ pub fn each_pairings_text()
 /// The pairings have one text at most, and so have those with a free seat.
 pub fn one_pairings_text()
     ensures { HasOnePairingsText }
+{}
+
+/// The board of each days has a text.
+pub fn each_board_text()
+    ensures { EachHasBoardText }
+{}
+
+/// The board of some days has one text at most.
+pub fn one_board_text()
+    ensures { HasOneBoardText }
 {}
 
 /// Each pairing of a sound roster has a period, so that its line has the times of periods.

@@ -51,7 +51,7 @@ fn member_text(
 }
 
 /// Writes the first line: the member's id, seat and name; and a line with the member's base, where it isn't `HOME`.
-fn header(alloc: Global, who: &CrewId, member: &Member) -> Result<String, MemoryFault>
+pub(crate) fn header(alloc: Global, who: &CrewId, member: &Member) -> Result<String, MemoryFault>
     ensures { IfOk result (λ text. string_bytes text ≡ spec.roster_header who.now member.now) }
 {
     let mut text = format!(in alloc; "ROSTER {} {}", who.as_str(), member.seat)?;
@@ -63,7 +63,11 @@ fn header(alloc: Global, who: &CrewId, member: &Member) -> Result<String, Memory
 }
 
 /// Makes a line for each duty of the member, in no order.
-fn lines_of(alloc: Global, roster: &Roster, who: &CrewId) -> Result<Vec<Line>, MemoryFault>
+pub(crate) fn lines_of(
+    alloc: Global,
+    roster: &Roster,
+    who: &CrewId,
+) -> Result<Vec<Line>, MemoryFault>
     ensures { IfOk result (λ lines. lines.items ≡ spec.lines_of roster.now who.now) }
 {
     let mut lines = Vec::new(alloc);

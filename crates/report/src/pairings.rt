@@ -54,7 +54,12 @@ fn rows_of(alloc: Global, roster: &Roster, which: Listed) -> Result<Vec<PairingR
     Ok(rows)
 }
 
-fn row_of(alloc: Global, id: &PairingId, entry: &PairingEntry) -> Result<PairingRow, MemoryFault>
+/// Makes a row of a pairing.
+pub(crate) fn row_of(
+    alloc: Global,
+    id: &PairingId,
+    entry: &PairingEntry,
+) -> Result<PairingRow, MemoryFault>
     ensures { IfOk result (λ row. row ≡ spec.listed_row (id.now, entry.now)) }
 {
     let (report, release) = span_of(&entry.periods_in_force(alloc)?);

@@ -2,9 +2,11 @@
 //! Worked texts: `tests/reports.py`. Wrong bodies: `must-fail-more/`.
 ghost use Rattle.std.specs.Prelude.{◌≡◌, ◌≤◌, IfOk, length};
 ghost use Rattle.std.specs.List.{All};
+ghost use Rattle.report.specs.Board.{period_meets};
 ghost use Rattle.report.specs.Periods as spec;
 
 use duty::{Actual, Fdp, flight_minutes, last_block_in};
+use request::Days;
 use roster::{PairingEntry, with_times_in_force};
 use std::alloc::Global;
 use values::{MemoryFault, TryClone};
@@ -45,6 +47,13 @@ impl PeriodInForce {
         ensures { result ≡ spec.flight_time_of self.now.fdp }
     {
         flight_minutes(self.fdp.segments.as_slice())
+    }
+
+    /// Returns whether the period has a minute in these days, from its report to its release in force.
+    pub fn meets(&self, days: Days) -> bool
+        ensures { result ≡ period_meets days self.now }
+    {
+        days.meets(self.fdp.report, self.fdp.release)
     }
 }
 

@@ -40,29 +40,29 @@ elim_parts : {P : Type 0} (a b : Bool) → (a || b) ≡ false → (a ≡ false �
 elim_parts true b e next = absurd (cc)
 elim_parts false b e next = next refl e
 
-no_part : (a b : Bool) → a ≡ false → b ≡ false → (a || b) ≡ false
+pub no_part : (a b : Bool) → a ≡ false → b ≡ false → (a || b) ≡ false
 no_part a b ea eb = rw (ea, eb) refl
 
-each_plain : {A : Type 0} (f : A → Data) → ((x : A) → has_float (f x) ≡ false) → (xs : List A) → ArePlain (map f xs)
+pub each_plain : {A : Type 0} (f : A → Data) → ((x : A) → has_float (f x) ≡ false) → (xs : List A) → ArePlain (map f xs)
 each_plain f each [] = refl
 each_plain f each (x ∷ xs) = no_part (has_float (f x)) (items_have_float (items_of (map f xs))) (each x) (each_plain f each xs)
 
-both_plain : (a b : List Data) → ArePlain a → ArePlain b → ArePlain (a ++ b)
+pub both_plain : (a b : List Data) → ArePlain a → ArePlain b → ArePlain (a ++ b)
 both_plain [] b pa pb = pb
 both_plain (d ∷ ds) b pa pb = elim_parts (has_float d) (items_have_float (items_of ds)) pa (λ first rest. no_part (has_float d) (items_have_float (items_of (ds ++ b))) first (both_plain ds b rest pb))
 
-all_plain : {A : Type 0} (f : A → List Data) → ((x : A) → ArePlain (f x)) → (xs : List A) → ArePlain (flat_map f xs)
+pub all_plain : {A : Type 0} (f : A → List Data) → ((x : A) → ArePlain (f x)) → (xs : List A) → ArePlain (flat_map f xs)
 all_plain f each [] = refl
 all_plain f each (x ∷ xs) = both_plain (f x) (flat_map f xs) (each x) (all_plain f each xs)
 
 pub members_plain : (s : State) → has_float (members_json s) ≡ false
 members_plain s = no_part _ _ (each_plain base_json (λ row. refl) (fin.entries s.bases)) (no_part _ _ (each_plain member_json (λ row. refl) (fin.entries s.crew)) refl)
 
-actual_plain : (actual : Option ActualTimes) → has_float (actual_json actual) ≡ false
+pub actual_plain : (actual : Option ActualTimes) → has_float (actual_json actual) ≡ false
 actual_plain None = refl
 actual_plain (Some a) = no_part _ _ (each_plain times_json (λ t. refl) a.segments) refl
 
-segments_plain : (segments : List Segment) → ArePlain (map segment_json segments)
+pub segments_plain : (segments : List Segment) → ArePlain (map segment_json segments)
 segments_plain segments = each_plain segment_json (λ s. refl) segments
 
 duty_plain : (id : List ℕ) (np : ℕ × PeriodInForce) → has_float (period_duty_json id np) ≡ false
@@ -103,7 +103,7 @@ actual_ends_plain (Some a) = refl
 listed_period_plain : (np : ℕ × PeriodInForce) → has_float (listed_period_json np) ≡ false
 listed_period_plain (n, p) = no_part _ _ (actual_ends_plain p.actual) refl
 
-listed_pairing_plain : (row : List ℕ × PairingEntry) → has_float (listed_pairing_json row) ≡ false
+pub listed_pairing_plain : (row : List ℕ × PairingEntry) → has_float (listed_pairing_json row) ≡ false
 listed_pairing_plain (id, r) = of_pairing_plain id r (listed_periods_json r) (each_plain listed_period_json listed_period_plain (enumerate_from 1 (pairing_periods r)))
 
 pub pairings_plain : (s : State) (which : Listed) → has_float (pairings_json s which) ≡ false

@@ -6,4 +6,7 @@ pub mod PairingsJson
 pub mod MembersJson
 pub mod ExceedancesJson
 pub mod LimitsJson
+pub mod BoardJson
+pub mod RequestJson
+pub mod CountJson
 pub mod Laws

@@ -18,13 +18,11 @@ length_or_null None = null
 abbrev pub list_json : List ℕ → List Data → Data
 list_json name list = object_of ((name, array_of list) ∷ [])
 
--- the text of a report: compact, with a line end
-unfoldable pub json_text : Data → List ℕ
-json_text d = compact_text d ++ codes "\n"
-
--- ---- As the program makes it
-
--- an object with this member too; any other value as it is
+-- an object with this member too, in its place in byte order of the names; any other value as it is
 abbrev pub with_member : List ℕ → Data → Data → Data
 with_member name d (object members) = object (put name d members)
 with_member name d other = other
+
+-- the text of a report: compact, with a line end
+unfoldable pub json_text : Data → List ℕ
+json_text d = compact_text d ++ codes "\n"

@@ -87,7 +87,7 @@ fn add_outsides(
     Ok(())
 }
 
-fn period_value(
+pub(crate) fn period_value(
     alloc: Global,
     id: &PairingId,
     number: usize,
@@ -117,7 +117,11 @@ fn period_value(
     )
 }
 
-fn ground_value<'a>(alloc: Global, id: &'a GroundId, duty: &'a Ground) -> Result<Value, MemoryFault>
+pub(crate) fn ground_value<'a>(
+    alloc: Global,
+    id: &'a GroundId,
+    duty: &'a Ground,
+) -> Result<Value, MemoryFault>
     ensures { IfOk result (λ value. view value ≡ spec.ground_duty_json (id.now, duty.now)) }
 {
     let members = [
@@ -130,7 +134,7 @@ fn ground_value<'a>(alloc: Global, id: &'a GroundId, duty: &'a Ground) -> Result
     object_of(alloc, &members)
 }
 
-fn outside_value(
+pub(crate) fn outside_value(
     alloc: Global,
     id: &OutsideId,
     outside: &OutsideEntry,

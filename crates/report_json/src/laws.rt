@@ -1,5 +1,5 @@
 //! What holds of the reports of each roster as JSON. Each of these functions does nothing; its clause is a law. The other
-//! four reports are functions of the roster.
+//! six reports are functions of the roster.
 ghost use Rattle.report_json.specs.Laws.{EachHasExceedancesJson, EachHasLimitsJson, HasOneExceedancesJson, HasOneLimitsJson};
 
 /// The exceedances of a sound roster have a text.

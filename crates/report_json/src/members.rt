@@ -34,7 +34,7 @@ fn members_value(alloc: Global, roster: &Roster) -> Result<Value, MemoryFault>
 }
 
 /// Makes an object of each base.
-fn bases_of(alloc: Global, roster: &Roster) -> Result<Vec<Value>, MemoryFault>
+pub(crate) fn bases_of(alloc: Global, roster: &Roster) -> Result<Vec<Value>, MemoryFault>
     ensures { IfOk result (λ rows. map view rows.items ≡ spec.bases_json roster.now) }
 {
     let mut rows = Vec::new(alloc);

@@ -47,7 +47,12 @@ fn pairings_of(alloc: Global, roster: &Roster, which: Listed) -> Result<Vec<Valu
     Ok(rows)
 }
 
-fn pairing(alloc: Global, id: &PairingId, entry: &PairingEntry) -> Result<Value, MemoryFault>
+/// Makes an object of a pairing in the list.
+pub(crate) fn pairing(
+    alloc: Global,
+    id: &PairingId,
+    entry: &PairingEntry,
+) -> Result<Value, MemoryFault>
     ensures { IfOk result
         (λ value. view value ≡ spec.listed_pairing_json (id.now, entry.now)) }
 {

@@ -1,2 +1,3 @@
+pub mod Days
 pub mod Range
 pub mod Subjects

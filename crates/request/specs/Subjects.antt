@@ -4,7 +4,8 @@ use Rattle.std.specs.Prelude.{String, ℕ, List, string_bytes, option_map}
 use Rattle.std.specs.Global.{Global}
 use Rattle.request.specs.declared.subject.Subject.{Subject}
 use Rattle.request.specs.declared.subject.Subject.TheVariants.{Crew, Limits, Pairing, Exceedances}
-use Rattle.request.specs.declared.subject.Subject.TheVariants.{Members, Pairings}
+use Rattle.request.specs.declared.subject.Subject.TheVariants.{Members, Pairings, Board}
+use Rattle.request.specs.declared.subject.Subject.TheVariants.{Request}
 
 -- a subject with other ids: what two functions make of the ids of a crew member and of a pairing
 abbrev pub subject_map : {C P C' P' : Type 0} → (C → C') → (P → P') → Subject C P → Subject C' P'
@@ -14,6 +15,8 @@ subject_map crew pairing (Pairing id) = Pairing (pairing id)
 subject_map crew pairing Exceedances = Exceedances
 subject_map crew pairing Members = Members
 subject_map crew pairing (Pairings which) = Pairings which
+subject_map crew pairing (Board days) = Board days
+subject_map crew pairing (Request number) = Request number
 
 -- a subject whose ids are references, by what stands behind them
 abbrev pub subject_copied : {C P : Type 0} → Subject (Bor C) (Bor P) → Subject C P

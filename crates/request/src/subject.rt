@@ -1,6 +1,9 @@
 //! What a report is asked of: the one name of a report, for whoever asks for it and whoever answers.
 //! Worked texts of each report: `tests/reports.py`.
 
+use crate::days::Days;
+use crate::number::RequestNumber;
+
 /// Which pairings are listed.
 #[derive(Clone, Copy, Debug, PartialEq, Eq, Drop)]
 pub enum Listed {
@@ -31,6 +34,10 @@ pub enum Subject<C, P> {
     Members,
     /// All pairings, or those with a free seat.
     Pairings(Listed),
+    /// The board of these days: all members, each with the duties that meet the days, and the open pairings that do.
+    Board(Days),
+    /// What is kept under the number of this request.
+    Request(RequestNumber),
 }
 
 impl Subject<String, String> {
@@ -51,6 +58,8 @@ impl Subject<String, String> {
             Subject::Exceedances => Subject::Exceedances,
             Subject::Members => Subject::Members,
             Subject::Pairings(which) => Subject::Pairings(*which),
+            Subject::Board(days) => Subject::Board(*days),
+            Subject::Request(number) => Subject::Request(*number),
         }
     }
 }

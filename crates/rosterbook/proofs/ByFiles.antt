@@ -24,10 +24,12 @@ use Rattle.book.proofs.LifeLemmas as life
 use Rattle.book.proofs.States.{one_of_either}
 use Rattle.http_exchange.specs.Exchange.{ChannelBytes}
 use Rattle.asking.specs.Requests.{ReadRequest}
-use Rattle.rosterbook.specs.Asking.{IsAskStopped, IsImported, IsImportStopped, IsLeftAfterAnswers, IsRequestAnswered, IsStoppedIn, asked_by_request, left_by_check, left_by_request}
+use Rattle.rosterbook.specs.Asking.{IsAskStopped, IsImported, IsImportStopped, IsLeftAfterAnswers, IsRequestAnswered, IsStoppedIn, left_by_check, left_by_request}
+use Rattle.asking.specs.Lines.{asked_by_request}
 use Rattle.rosterbook.specs.ByFiles.{AreLeftAfter, AreLeftAsFound, AreLeftByDo, AreLeftByImport, AreLetGo, AreLeftByLines, AreLeftByRequest, AreLinesCheckedBy, AreLinesDoneBy, HaveSession, IsByFiles, IsDoneAs, IsDoneBy, IsImportedBy, IsRefusedAs, IsSession, IsShownBy}
 use Rattle.rosterbook.specs.Doing.{IsInputAnswered, IsInputStopped}
-use Rattle.rosterbook.specs.InLines.{AreLinesAnswered, AreLinesChecked, AreLinesStopped, AreRequestsAnswered, commands_in, requests_of}
+use Rattle.rosterbook.specs.InLines.{AreLinesAnswered, AreLinesChecked, AreLinesStopped, AreRequestsAnswered}
+use Rattle.asking.specs.Lines.{commands_in, requests_of}
 use Rattle.rosterbook.specs.Showing.{IsToldOf}
 use Rattle.rosterbook.specs.declared.status.Status.{Status}
 use Rattle.rosterbook.specs.declared.stop.Stop.{Stop}

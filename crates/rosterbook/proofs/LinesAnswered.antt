@@ -6,19 +6,20 @@ use Rattle.std.proofs.lemmas.List.{map-append}
 use Rattle.std.proofs.lemmas.List.Sums.{fold-append}
 use Rattle.std.specs.Io.KnownBytes.{Appends}
 use Rattle.sqlite_trees.specs.declared.store.Store.{Ghosts}
-use Rattle.codec.specs.RefusalText as json
 use Rattle.codec.specs.Requests.{read_request}
 use Rattle.roster.specs.Folds.{Asked, Fold, Replies, ReplyOrRefusal}
 use Rattle.roster.specs.State.{State}
 use Rattle.state_rows.specs.declared.fault.StoreFault.TheVariants as faults
 use Rattle.book.specs.Kept.{IsClean, IsDurablyAt, IsInDoubt, Kept}
 use Rattle.book.proofs.CommandLists.{fold_append, replies_append}
+use Rattle.asking.proofs.LinesTaken.{commands_both, told_both}
+use Rattle.asking.specs.Lines.{Told, asked_by_request, commands_in, requests_of, told_of, told_text}
 use Rattle.asking.specs.Requests.{IsDoneAsRead, IsRequestAsked, ReadRequest}
 use Rattle.asking.specs.declared.answers.AskFault.{AskFault}
 use Rattle.asking.specs.declared.answers.AskFault.TheVariants as ask
 use Rattle.http_exchange.specs.Exchange.{ChannelBytes}
-use Rattle.rosterbook.specs.Asking.{IsBodyTold, IsBodyUntold, IsLeftAfterAnswers, IsStoppedIn, asked_by_request, left_by_request, status_of_answer, stop_of, told_json}
-use Rattle.rosterbook.specs.InLines.{AreRequestsAnswered, AreRequestsTold, AreStoppedAtLast, commands_in, printed_of, requests_of, status_after, status_of_told, told_of}
+use Rattle.rosterbook.specs.Asking.{IsBodyTold, IsBodyUntold, IsLeftAfterAnswers, IsStoppedIn, left_by_request, status_of_answer, stop_of}
+use Rattle.rosterbook.specs.InLines.{AreRequestsAnswered, AreRequestsTold, AreStoppedAtLast, printed_of, status_after, status_of_told, told_status}
 use Rattle.rosterbook.specs.Streams.{line_end}
 use Rattle.rosterbook.specs.declared.status.Status.{Status}
 use Rattle.rosterbook.specs.declared.status.Status.TheVariants.{Done, Refused}
@@ -32,39 +33,25 @@ use Rattle.rosterbook.proofs.Stopping.{answer_untold, command_stopped, untold}
 
 -- ---- What is reported of two lists of requests, one after the other
 
-abbrev Told : Type 0
-Told = List (Status × List ℕ)
-
 after_both : (first second third : Status) → status_after (status_after first second) third ≡ status_after first (status_after (status_after Done second) third)
 after_both first second Refused = refl
 after_both first Refused third = refl
 after_both first second third = refl
 
-status_from : (status : Status) (told : Told) → fold (λ s one. status_after s one.0) status told ≡ status_after status (status_of_told told)
+status_from : (status : Status) (told : List Told) → fold (λ s one. status_after s (told_status one)) status told ≡ status_after status (status_of_told told)
 status_from status [] = refl
 status_from status (one ∷ told) =
-    status_from (status_after status one.0) told
-    ∙ after_both status one.0 (status_of_told told)
-    ∙ ap (status_after status) (sym (status_from (status_after Done one.0) told))
+    status_from (status_after status (told_status one)) told
+    ∙ after_both status (told_status one) (status_of_told told)
+    ∙ ap (status_after status) (sym (status_from (status_after Done (told_status one)) told))
 
-status_both : (told more : Told) → status_of_told (told ++ more) ≡ status_after (status_of_told told) (status_of_told more)
-status_both told more = fold-append (λ s one. status_after s one.0) Done told more ∙ status_from (status_of_told told) more
-
-pub commands_both : (requests more : List ReadRequest) → commands_in (requests ++ more) ≡ commands_in requests ++ commands_in more
-commands_both requests more = flat_map-append asked_by_request requests more
-
-told_both : (requests more : List ReadRequest) (answers others : List ReplyOrRefusal) → length answers ≡ length (commands_in requests) →
-    told_of (requests ++ more) (answers ++ others) ≡ told_of requests answers ++ told_of more others
-told_both [] more [] others each = refl
-told_both [] more (answer ∷ answers) others each = absurd (omega (arith, each))
-told_both (Err fault ∷ requests) more answers others each = ap (λ t. (Refused, json.fault_reply fault) ∷ t) (told_both requests more answers others each)
-told_both (Ok asked ∷ requests) more [] others each = absurd (omega (arith, each))
-told_both (Ok asked ∷ requests) more (answer ∷ answers) others each = ap (λ t. told_json (Ok asked) answer ∷ t) (told_both requests more answers others (omega (arith, each)))
+status_both : (told more : List Told) → status_of_told (told ++ more) ≡ status_after (status_of_told told) (status_of_told more)
+status_both told more = fold-append (λ s one. status_after s (told_status one)) Done told more ∙ status_from (status_of_told told) more
 
 printed_both : (requests more : List ReadRequest) (answers others : List ReplyOrRefusal) → length answers ≡ length (commands_in requests) →
     printed_of (told_of (requests ++ more) (answers ++ others)) ≡ printed_of (told_of requests answers) ++ printed_of (told_of more others)
 printed_both requests more answers others each =
-    ap printed_of (told_both requests more answers others each) ∙ flat_map-append (λ one. one.1 ++ line_end) (told_of requests answers) (told_of more others)
+    ap printed_of (told_both requests more answers others each) ∙ flat_map-append (λ one. told_text one ++ line_end) (told_of requests answers) (told_of more others)
 
 -- requests were reported, and others then
 pub told_then : (out out_mid out' : ChannelBytes) (requests more : List ReadRequest) (answers others : List ReplyOrRefusal) (status next : Status) →
@@ -216,9 +203,9 @@ module _ {S : Type 0} (g : Ghosts S) (old new : Kept S) (out out' : ChannelBytes
   answer_ends (Ok reply) = refl
   answer_ends (Err refusal) = refl
 
-  pub one_printed : (told is : Status × List ℕ) → told ≡ is → Appends out out' (told.1 ++ line_end) → Appends out out' (printed_of (is ∷ []))
+  pub one_printed : (told : Status × List ℕ) (is : Told) → told ≡ (told_status is, told_text is) → Appends out out' (told.1 ++ line_end) → Appends out out' (printed_of (is ∷ []))
   one_printed told is same printed =
-      subst (λ (t : Status × List ℕ). Appends out out' (printed_of (t ∷ []))) same (subst (Appends out out') (sym (append-nil (told.1 ++ line_end))) printed)
+      subst (Appends out out') (sym (append-nil (told_text is ++ line_end))) (subst (λ (t : Status × List ℕ). Appends out out' (t.1 ++ line_end)) same printed)
 
   one_answered : (request : ReadRequest) (told : Status × List ℕ) (status : Status) → IsRequestTold g old new left_by_request told request → status ≡ told.0 → Appends out out' (told.1 ++ line_end) →
       AreRequestsAnswered g old new out out' (request ∷ []) status
@@ -226,7 +213,7 @@ module _ {S : Type 0} (g : Ghosts S) (old new : Kept S) (out out' : ChannelBytes
     answers = answer ∷ [];
     told = record {
       each = refl;
-      printed = one_printed told (told_json (Ok asked) answer) is printed;
+      printed = one_printed told (Ok answer) is printed;
       ends = ends ∙ ap (λ (t : Status × List ℕ). t.0) is ∙ answer_ends answer;
     };
     answered = answered;
@@ -236,7 +223,7 @@ module _ {S : Type 0} (g : Ghosts S) (old new : Kept S) (out out' : ChannelBytes
     answers = [];
     told = record {
       each = refl;
-      printed = one_printed told (told_json (Err fault) answer) is printed;
+      printed = one_printed told (Err fault) is printed;
       ends = ends ∙ ap (λ (t : Status × List ℕ). t.0) is;
     };
     answered = λ s at clean. refl;

@@ -7,16 +7,18 @@ use Rattle.codec.specs.Requests.{read_request}
 use Rattle.roster.specs.Folds.{answer_of}
 use Rattle.roster.specs.Steps.{step_of}
 use Rattle.book.specs.Kept.{Kept}
+use Rattle.asking.proofs.LinesTaken.{commands_both}
 use Rattle.asking.specs.Requests.{IsRequestChecked, ReadRequest}
 use Rattle.http_exchange.specs.Exchange.{ChannelBytes}
-use Rattle.rosterbook.specs.Asking.{IsBodyTold, left_by_check, told_json}
-use Rattle.rosterbook.specs.InLines.{AreRequestsChecked, answers_in, commands_in, requests_of, status_after}
+use Rattle.rosterbook.specs.Asking.{IsBodyTold, left_by_check}
+use Rattle.rosterbook.specs.InLines.{AreRequestsChecked, status_after}
+use Rattle.asking.specs.Lines.{answers_in, commands_in, requests_of}
 use Rattle.rosterbook.specs.Streams.{line_end}
 use Rattle.rosterbook.specs.declared.status.Status.{Status}
 use Rattle.rosterbook.specs.declared.status.Status.TheVariants.{Done}
 use Rattle.rosterbook.proofs.Answering.{IsRequestTold, check_told}
 use Rattle.rosterbook.proofs.CleanBefore.{clean_before_same}
-use Rattle.rosterbook.proofs.LinesAnswered.{answer_ends, commands_both, one_printed, told_then}
+use Rattle.rosterbook.proofs.LinesAnswered.{answer_ends, one_printed, told_then}
 use Rattle.rosterbook.proofs.RefusalLemmas.{appends_nothing}
 
 module _ {S : Type 0} (g : Ghosts S) where
@@ -60,7 +62,7 @@ module _ {S : Type 0} (g : Ghosts S) (old new : Kept S) (out out' : ChannelBytes
     answers = answer ∷ [];
     told = record {
       each = refl;
-      printed = one_printed g old new out out' told (told_json (Ok asked) answer) is printed;
+      printed = one_printed g old new out out' told (Ok answer) is printed;
       ends = ends ∙ ap (λ (t : Status × List ℕ). t.0) is ∙ answer_ends g old new out out' answer;
     };
     answered = answered;
@@ -70,7 +72,7 @@ module _ {S : Type 0} (g : Ghosts S) (old new : Kept S) (out out' : ChannelBytes
     answers = [];
     told = record {
       each = refl;
-      printed = one_printed g old new out out' told (told_json (Err fault) answer) is printed;
+      printed = one_printed g old new out out' told (Err fault) is printed;
       ends = ends ∙ ap (λ (t : Status × List ℕ). t.0) is;
     };
     answered = λ s at clean. refl;

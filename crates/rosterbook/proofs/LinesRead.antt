@@ -9,7 +9,8 @@ use Rattle.std.specs.Io.BufRead.{DropsThrough, drop_through, first_piece, strip_
 use Rattle.std.specs.Io.KnownBytes.{IsAtEnd, prepend_known}
 use Rattle.std.specs.List.{slice_split}
 use Rattle.http_exchange.specs.Exchange.{ChannelBytes}
-use Rattle.rosterbook.specs.InLines.{ReadsFirstLines, ReadsLines, has_bytes, input_lines, not_empty}
+use Rattle.rosterbook.specs.InLines.{ReadsFirstLines, ReadsLines}
+use Rattle.asking.specs.Lines.{has_bytes, input_lines, not_empty}
 
 -- ---- The first line
 

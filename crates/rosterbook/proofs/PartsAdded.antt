@@ -28,7 +28,7 @@ use Rattle.asking.specs.declared.answers.AskFault.TheVariants as ask
 use Rattle.asking.proofs.Chains.{all_parts, length-replies, parts_heard, parts_to_fault}
 use Rattle.asking.proofs.Parts.{length-import, schedule_made}
 use Rattle.http_exchange.specs.Exchange.{ChannelBytes}
-use Rattle.rosterbook.specs.Asking.{AreAddedAndTold, AreStopped, IsImported, IsImportStopped, IsLeftAfterAnswers, IsPartTold, IsUnasked, part_lines, status_with, stop_of}
+use Rattle.rosterbook.specs.Asking.{AreAddedAndTold, AreStopped, IsImported, IsImportStopped, IsLeftAfterAnswers, IsPartTold, IsUnasked, answered_parts, status_with, stop_of}
 use Rattle.rosterbook.specs.Streams.{IsOfChannel, ReadsInput, refused_line}
 use Rattle.rosterbook.specs.declared.import_command.PartLines.{PartLines}
 use Rattle.rosterbook.specs.declared.status.Status.TheVariants.{Done, Refused}
@@ -52,7 +52,7 @@ module _ {O : Type 0} (contents : O → ChannelBytes) where
   -- the line of each answer was written by the same writer, and counted
   record AreWritten (old new : PartLines O) (part : ℕ) (answers : List ReplyOrRefusal) : Type 0 where
     pub same_writer : new.out.ghost_name ≡ old.out.ghost_name
-    pub printed : Appends (contents old.out.now) (contents new.out.now) (part_lines part answers)
+    pub printed : Appends (contents old.out.now) (contents new.out.now) (answered_parts part answers)
     pub ends : new.status ≡ fold status_with old.status answers
 
   all_written : (part : ℕ) (answers : List Answer) (old new : PartLines O) → HasHeard Hears old part answers new → AreWritten old new part (map result_of answers)

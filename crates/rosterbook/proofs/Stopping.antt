@@ -16,7 +16,8 @@ use Rattle.asking.specs.Requests.{IsDoneAsRead, IsRequestAsked, ReadRequest, ask
 use Rattle.asking.specs.declared.answers.AskFault.{AskFault}
 use Rattle.asking.specs.declared.answers.AskFault.TheVariants as ask
 use Rattle.asking.specs.declared.answers.JsonAnswer.{JsonAnswer}
-use Rattle.rosterbook.specs.Asking.{Answers, IsAskStopped, IsBodyUntold, IsLeftAfterAnswers, IsBookFault, IsStoppedIn, asked_by_request, left_by_request, stop_of}
+use Rattle.rosterbook.specs.Asking.{Answers, IsAskStopped, IsBodyUntold, IsLeftAfterAnswers, IsBookFault, IsStoppedIn, left_by_request, stop_of}
+use Rattle.asking.specs.Lines.{asked_by_request}
 use Rattle.http_exchange.specs.Exchange.{ChannelBytes}
 use Rattle.rosterbook.specs.Streams.{IsOfChannel, ReadsInput}
 use Rattle.rosterbook.specs.declared.stop.Stop.{Stop}

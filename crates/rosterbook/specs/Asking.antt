@@ -16,6 +16,7 @@ use Rattle.state_rows.specs.declared.fault.StoreFault.{StoreFault}
 use Rattle.state_rows.specs.declared.fault.StoreFault.TheVariants.{Store}
 use Rattle.book.specs.Kept.{IsDurablyAt, IsClean, IsInDoubt, Kept}
 use Rattle.asking.specs.Answers.{answer_json}
+use Rattle.asking.specs.Lines.{asked_by_request}
 use Rattle.asking.specs.Requests.{ReadRequest, asked_as}
 use Rattle.asking.specs.declared.answers.AnswerKind.{AnswerKind}
 use Rattle.asking.specs.declared.answers.AnswerKind.TheVariants as kind
@@ -107,11 +108,6 @@ left_by_request s (Err fault) = s
 abbrev pub left_by_check : State → ReadRequest → State
 left_by_check s request = s
 
--- the commands that a request asks: one, or none if the request isn't read
-abbrev pub asked_by_request : ReadRequest → List Asked
-asked_by_request (Ok asked) = asked_as asked ∷ []
-asked_by_request (Err fault) = []
-
 -- A request was read and its answer printed. Where the state of the book is known, the answer is
 -- that of the state, and `left_by` gives the state that is left.
 pub record IsRequestAnswered {S : Type 0} (g : Ghosts S) (left_by : State → ReadRequest → State)
@@ -153,14 +149,16 @@ module _ (Asks : Result JsonAnswer AskFault → Type 0) (out out' : ChannelBytes
 -- ---- `import`
 
 -- the line that `import` prints for the answer to a part
-abbrev pub part_line : ℕ → ReplyOrRefusal → List ℕ
-part_line part (Ok reply) = decimal part ++ codes " accepted" ++ line_end
-part_line part (Err refusal) = decimal part ++ codes " refused " ++ refusal_text refusal ++ line_end
+abbrev pub answered_part : ℕ → ReplyOrRefusal → List ℕ
+answered_part part (Ok reply) = decimal part ++ codes " accepted" ++ line_end
+answered_part part (Err refusal) =
+    decimal part ++ codes " refused " ++ refusal_text refusal ++ line_end
 
 -- the lines that `import` prints for answers in turn, the first as that to this part
-abbrev pub part_lines : ℕ → List ReplyOrRefusal → List ℕ
-part_lines part [] = []
-part_lines part (answer ∷ answers) = part_line part answer ++ part_lines (part + 1) answers
+abbrev pub answered_parts : ℕ → List ReplyOrRefusal → List ℕ
+answered_parts part [] = []
+answered_parts part (answer ∷ answers) =
+    answered_part part answer ++ answered_parts (part + 1) answers
 
 -- the status after one more answer: refused if the answer is a refusal, else as it was
 abbrev pub status_with : Status → ReplyOrRefusal → Status
@@ -173,7 +171,7 @@ abbrev pub IsPartTold : {O F : Type 0} → (O → ChannelBytes) → PartLines O 
     → ReplyOrRefusal → Result ⊤ F → Type 0
 IsPartTold contents old new part answer result = OnOk result
     ((new.out.ghost_name ≡ old.out.ghost_name)
-    × Appends (contents old.out.now) (contents new.out.now) (part_line part answer)
+    × Appends (contents old.out.now) (contents new.out.now) (answered_part part answer)
     × (new.status ≡ status_with old.status answer))
 
 -- the status with which the program ends after these answers of an import
@@ -184,7 +182,7 @@ status_of_all answers = fold status_with Done answers
 pub record AreTold (plans : List Plan) (answers : List ReplyOrRefusal) (status : Status)
     (out out' : ChannelBytes) : Type 0 where
   pub each : length answers ≡ length plans
-  pub printed : Appends out out' (part_lines 1 answers)
+  pub printed : Appends out out' (answered_parts 1 answers)
   pub ends : status ≡ status_of_all answers
 
 -- These pairings were added and their answers printed. Where the state of the book is known, the
@@ -231,7 +229,7 @@ pub record AreStopped {S : Type 0} (g : Ghosts S) (old new : Kept S) (number : �
     (plans : List Plan) (out out' : ChannelBytes) (stop : Stop) : Type 0 where
   pub answers : List ReplyOrRefusal
   pub asked : IsStoppedIn g old new (import number plans) answers stop
-  pub printed : IsBookFault stop → Appends out out' (part_lines 1 answers)
+  pub printed : IsBookFault stop → Appends out out' (answered_parts 1 answers)
 
 -- the program stopped before it added any pairing, or while it added the pairings of the schedule
 -- that it read

@@ -26,9 +26,10 @@ use Rattle.console.specs.declared.actions.Action.TheVariants.{Init, Do, Import, 
 use Rattle.asking.specs.Requests.{ReadRequest}
 use Rattle.http_exchange.specs.Exchange.{ChannelBytes}
 use Rattle.rosterbook.specs.Asking.{Answers, AreTold, IsNoSchedule, IsRequestReadAndTold}
-use Rattle.rosterbook.specs.Asking.{asked_by_request, left_by_check, left_by_request}
+use Rattle.rosterbook.specs.Asking.{left_by_check, left_by_request}
+use Rattle.asking.specs.Lines.{asked_by_request}
 use Rattle.rosterbook.specs.InLines.{AreRequestsTold, ReadsFirstLines, ReadsLines}
-use Rattle.rosterbook.specs.InLines.{answers_in, commands_in, requests_of}
+use Rattle.asking.specs.Lines.{answers_in, commands_in, requests_of}
 use Rattle.rosterbook.specs.Program.{PerformsAction, exit_status}
 use Rattle.rosterbook.specs.Serving.{IsServeDone, IsServeStopped}
 use Rattle.rosterbook.specs.Showing.{IsToldOf}

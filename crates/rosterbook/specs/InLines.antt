@@ -1,20 +1,18 @@
 -- What `do --lines` does with the lines that a reader has, and with a book: there is one request on
 -- each line, which with `--dry-run` is only checked.
-use Rattle.std.specs.Prelude.{◌≡◌, ◌==◌, ◌⊎◌, ◌≤◌, ◌<◌, ⊤, ℕ, ◌+◌, Bool, true, false}
-use Rattle.std.specs.Prelude.{List, [], ◌∷◌, ◌++◌, length, take, map, filter, flat_map}
+use Rattle.std.specs.Prelude.{◌≡◌, ◌⊎◌, ◌≤◌, ◌<◌, ⊤, ℕ, ◌+◌, List, ◌++◌, length, take, flat_map}
 use Rattle.std.specs.Prelude.{Some, None, Ok, Err}
-use Rattle.std.specs.List.{fold, slice_split}
+use Rattle.std.specs.List.{fold}
 use Rattle.std.specs.Io.KnownBytes.{Appends}
 use Rattle.sqlite_trees.specs.declared.store.Store.{Ghosts}
-use Rattle.codec.specs.Requests.{read_request}
-use Rattle.roster.specs.Folds.{Asked, Fold, Replies, ReplyOrRefusal, answer_of}
+use Rattle.roster.specs.Folds.{Fold, Replies, ReplyOrRefusal}
 use Rattle.roster.specs.State.{State}
-use Rattle.roster.specs.Steps.{step_of}
 use Rattle.book.specs.Kept.{IsClean, IsDurablyAt, Kept}
-use Rattle.codec.specs.RefusalText as json
+use Rattle.asking.specs.Lines.{Told, answers_in, commands_in, input_lines, requests_of, told_of}
+use Rattle.asking.specs.Lines.{told_text}
 use Rattle.asking.specs.Requests.{ReadRequest}
 use Rattle.http_exchange.specs.Exchange.{ChannelBytes}
-use Rattle.rosterbook.specs.Asking.{IsStoppedIn, asked_by_request, told_json}
+use Rattle.rosterbook.specs.Asking.{IsStoppedIn, status_of_answer}
 use Rattle.rosterbook.specs.Showing.{IsShowStopped}
 use Rattle.rosterbook.specs.Streams.{IsOfChannel, line_end}
 use Rattle.rosterbook.specs.declared.status.Status.{Status}
@@ -22,20 +20,6 @@ use Rattle.rosterbook.specs.declared.status.Status.TheVariants.{Done, Refused}
 use Rattle.rosterbook.specs.declared.stop.Stop.{Stop}
 
 -- ---- What is read
-
--- whether a line has a byte
-abbrev pub has_bytes : List ℕ → Bool
-has_bytes [] = false
-has_bytes (byte ∷ line) = true
-
--- the lines that aren't empty
-abbrev pub not_empty : List (List ℕ) → List (List ℕ)
-not_empty lines = filter has_bytes lines
-
--- the lines of an input, without the line feeds (10) that end them, and without the empty lines;
--- what stands after the last line feed is a line too
-abbrev pub input_lines : List ℕ → List (List ℕ)
-input_lines bytes = not_empty (slice_split (λ byte. byte == 10) bytes)
 
 -- all lines that a reader has were read; if its bytes aren't known, these may be any lines
 abbrev pub ReadsLines : ChannelBytes → List (List ℕ) → Type 0
@@ -48,38 +32,25 @@ abbrev pub ReadsFirstLines : ChannelBytes → List (List ℕ) → Type 0
 ReadsFirstLines None lines = ⊤
 ReadsFirstLines (Some bytes) lines = lines ≡ take (length lines) (input_lines bytes)
 
--- the requests of these lines: each line is the body of one
-abbrev pub requests_of : List (List ℕ) → List ReadRequest
-requests_of lines = map read_request lines
-
--- the commands of requests: a request that isn't read has none
-abbrev pub commands_in : List ReadRequest → List Asked
-commands_in requests = flat_map asked_by_request requests
-
 -- ---- What is printed
 
--- What is reported of requests, in turn, where their commands got these answers. Of a request that
--- isn't read it is reported why. From the first command without an answer on nothing is reported.
-abbrev pub told_of : List ReadRequest → List ReplyOrRefusal → List (Status × List ℕ)
-told_of [] answers = []
-told_of (Err fault ∷ requests) answers =
-    (Refused, json.fault_reply fault) ∷ told_of requests answers
-told_of (Ok asked ∷ requests) [] = []
-told_of (Ok asked ∷ requests) (answer ∷ answers) =
-    told_json (Ok asked) answer ∷ told_of requests answers
+-- the lines that are printed, one for each request of which something is told
+abbrev pub printed_of : List Told → List ℕ
+printed_of told = flat_map (λ one. told_text one ++ line_end) told
 
--- the lines that are printed, one for each request of which something is reported
-abbrev pub printed_of : List (Status × List ℕ) → List ℕ
-printed_of told = flat_map (λ one. one.1 ++ line_end) told
+-- the status of what is told of a request
+abbrev pub told_status : Told → Status
+told_status (Ok answer) = status_of_answer answer
+told_status (Err fault) = Refused
 
 -- the status after one more request: refused if that request was refused, else as it was
 abbrev pub status_after : Status → Status → Status
 status_after status Refused = Refused
 status_after status other = status
 
--- the status with which the program ends after all that it reported
-abbrev pub status_of_told : List (Status × List ℕ) → Status
-status_of_told told = fold (λ status one. status_after status one.0) Done told
+-- the status with which the program ends after all that it told
+abbrev pub status_of_told : List Told → Status
+status_of_told told = fold (λ status one. status_after status (told_status one)) Done told
 
 -- the answers to the commands of these requests were printed, one line for each request
 pub record AreRequestsTold (requests : List ReadRequest) (answers : List ReplyOrRefusal)
@@ -87,10 +58,6 @@ pub record AreRequestsTold (requests : List ReadRequest) (answers : List ReplyOr
   pub each : length answers ≡ length (commands_in requests)
   pub printed : Appends out out' (printed_of (told_of requests answers))
   pub ends : status ≡ status_of_told (told_of requests answers)
-
--- how a state answers each of these commands, if it is asked that command alone
-abbrev pub answers_in : State → List Asked → List ReplyOrRefusal
-answers_in s asked = map (λ one. answer_of (step_of s one.0 one.1)) asked
 
 -- ---- Of a book
 

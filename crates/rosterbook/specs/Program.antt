@@ -6,7 +6,8 @@ use Rattle.std.specs.Io.KnownBytes.{Appends}
 use Rattle.time117.specs.Local.{is_zone_text}
 use Rattle.roster.specs.Folds.{ReplyOrRefusal}
 use Rattle.rosterbook.specs.Asking.{IsImportTold, IsRequestReadAndTold}
-use Rattle.rosterbook.specs.InLines.{AreRequestsTold, ReadsLines, requests_of}
+use Rattle.rosterbook.specs.InLines.{AreRequestsTold, ReadsLines}
+use Rattle.asking.specs.Lines.{requests_of}
 use Rattle.rosterbook.specs.Serving.{IsServeTold}
 use Rattle.rosterbook.specs.Showing.{IsToldOf}
 use Rattle.roster.specs.State.{State}

@@ -4,6 +4,7 @@
 ghost use Rattle.std.specs.Prelude.{◌∷◌, [], IfErr, IfOk};
 ghost use Rattle.roster.specs.State.{State};
 ghost use Rattle.asking.specs.Requests.{IsRequestChecked};
+ghost use Rattle.asking.specs.Lines as lines;
 ghost use Rattle.book.specs.Calls.{IsAfterCalls};
 ghost use Rattle.book.specs.Kept.{IsDurablyAt};
 ghost use Rattle.rosterbook.specs.Asking.{IsBodyTold, IsBodyUntold, IsRequestAnswered, left_by_check};
@@ -97,7 +98,7 @@ fn check_line<S: Alter, O: Write>(
     line: &[u8],
     out: &mut O,
 ) -> Result<Status, Stop>
-    ensures checked { let requests = spec.requests_of (spec.not_empty (line.now ∷ [])) in
+    ensures checked { let requests = lines.requests_of (lines.not_empty (line.now ∷ [])) in
         IfOk result (spec.AreRequestsChecked S.Store book.old book.new (O.contents out.old)
         (O.contents out.new) requests) }
     ensures stopped { IfErr result

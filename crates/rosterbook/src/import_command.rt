@@ -115,7 +115,7 @@ impl<'a, O: Write> Listener for PartLines<'a, O> {
 /// Writes the line of a part at once.
 fn tell_part<O: Write>(out: &mut O, part: u16, answer: &Answer) -> io::Result<()>
     ensures { OnOk result (Appends (O.contents out.old) (O.contents out.new)
-        (spec.part_line part (result_of answer.now))) }
+        (spec.answered_part part (result_of answer.now))) }
 {
     match answer {
         Answer::Accepted(_) => writeln!(out, "{part} accepted")?,

@@ -1,6 +1,7 @@
 //! `rosterbook do --lines`: requests on standard input, one a line, asked of a book one after the other. The definitions are in
 //! `specs/InLines.antt`. Wrong bodies: `must-fail-more/`.
 ghost use Rattle.std.specs.Prelude.{◌≡◌, ◌∷◌, [], IfErr, IfOk};
+ghost use Rattle.asking.specs.Lines as lines;
 ghost use Rattle.book.specs.Calls.{IsAfterCalls};
 ghost use Rattle.rosterbook.specs.InLines as spec;
 
@@ -44,10 +45,10 @@ fn ask_line<S: Alter, O: Write>(
     line: &[u8],
     out: &mut O,
 ) -> Result<Status, Stop>
-    ensures answered { let requests = spec.requests_of (spec.not_empty (line.now ∷ [])) in
+    ensures answered { let requests = lines.requests_of (lines.not_empty (line.now ∷ [])) in
         IfOk result (spec.AreRequestsAnswered S.Store book.old book.new (O.contents out.old)
         (O.contents out.new) requests) }
-    ensures stopped { let requests = spec.requests_of (spec.not_empty (line.now ∷ [])) in
+    ensures stopped { let requests = lines.requests_of (lines.not_empty (line.now ∷ [])) in
         IfErr result (spec.AreStoppedAtLast S.Store book.old book.new (O.contents out.old)
         (O.contents out.new) requests) }
     ensures calls { IsAfterCalls S.Store book.old book.new }

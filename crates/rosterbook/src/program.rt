@@ -128,7 +128,7 @@ fn answer_action<S: Start, R: Read, O: Write, E: Write>(
             file,
             subject,
             form,
-        } => answer_report(rt, file, start, subject.as_deref(), *form, out, err),
+        } => answer_report(rt, file, start, &subject.as_deref(), *form, out, err),
         Action::Serve {
             file,
             port,

@@ -30,13 +30,13 @@ pub(crate) fn answer_report<S: Start, O: Write, E: Write>(
     rt: &HostRuntime,
     file: &str,
     start: S,
-    subject: Subject<&str, &str>,
+    subject: &Subject<&str, &str>,
     form: Form,
     out: &mut O,
     err: &mut E,
 ) -> Ended<FileFrom<S>>
     ensures done { IfOk result.done
-        (IsShownBy (IsByFiles result.left (image_at S.Start)) (subject_copied subject.entry)
+        (IsShownBy (IsByFiles result.left (image_at S.Start)) (subject_copied subject.now)
         form (O.contents out.old) (O.contents out.new) (E.contents err.old) (E.contents err.new)) }
     ensures left { AreLetGo result.left (image_at S.Start) }
     ensures session { HaveSession result.left (image_at S.Start) }
@@ -62,16 +62,16 @@ pub(crate) fn answer_report<S: Start, O: Write, E: Write>(
 pub fn show_text<S: Alter, O: Write, E: Write>(
     alloc: Global,
     book: &mut Book<S>,
-    subject: Subject<&str, &str>,
+    subject: &Subject<&str, &str>,
     form: Form,
     out: &mut O,
     err: &mut E,
 ) -> Result<Status, Stop>
     ensures some { IfOk result
-        (λ status. (s : State) × spec.IsToldOf s (subject_copied subject.entry) form status
+        (λ status. (s : State) × spec.IsToldOf s (subject_copied subject.now) form status
         (O.contents out.old) (O.contents out.new) (E.contents err.old) (E.contents err.new)) }
     ensures told { (s : State) → IsDurablyAt S.Store book.old s → IsClean S.Store book.new
-        → IfOk result (λ status. spec.IsToldOf s (subject_copied subject.entry) form status
+        → IfOk result (λ status. spec.IsToldOf s (subject_copied subject.now) form status
         (O.contents out.old) (O.contents out.new) (E.contents err.old) (E.contents err.new)) }
     ensures kept { (s : State) → IsDurablyAt S.Store book.old s → IsDurablyAt S.Store book.new s }
     ensures stopped { IfErr result

@@ -5,9 +5,10 @@ use command::{Key, Member};
 use duty::{CrewId, Ground, GroundId, OutsideId, PairingId};
 use lookup::{
     bases_at, crew_ids_at, exceedances_at, ground_at, grounds_held_at, member_at, outside_at,
-    outsides_held_at, pairing_at, pairing_ids_at, pairings_held_at, request_at,
+    outsides_held_at, pairing_at, pairing_ids_at, pairings_held_at, request_at, requests_at,
 };
 use part::Source;
+use request::RequestNumber;
 use roster::{Bases, DutyId, ExceedanceId, LoggedCommand, OutsideEntry, PairingEntry};
 use sqlite::Alter;
 use state_rows::StoreFault;
@@ -59,6 +60,14 @@ impl<S: Alter> Source for Store<S> {
 
     fn request(&mut self, alloc: Global, key: Key) -> Result<Option<LoggedCommand>, StoreFault> {
         request_at(alloc, &mut self.conn, key)
+    }
+
+    fn requests_of(
+        &mut self,
+        alloc: Global,
+        number: RequestNumber,
+    ) -> Result<OrdMap<Key, LoggedCommand>, StoreFault> {
+        requests_at(alloc, &mut self.conn, number)
     }
 
     fn member(&mut self, alloc: Global, id: &CrewId) -> Result<Option<Member>, StoreFault> {

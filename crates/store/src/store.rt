@@ -9,6 +9,7 @@ ghost use Rattle.roster.specs.State.{State, empty};
 ghost use Rattle.roster.specs.Steps.{step_of};
 ghost use Rattle.part.specs.Part.{Part};
 ghost use Rattle.part.specs.Shown.{Absence, IsShown, shown_part};
+ghost use Rattle.lookup.specs.Count.{IsCount};
 ghost use Rattle.lookup.specs.Reads.{ChangesNothing, IsOpen, IsReadFault, Shows};
 ghost use Rattle.writing.specs.Commits.{IsCommitted, AreTablesMade, IsNotMade};
 ghost use Rattle.writing.specs.Making.{IsFree};
@@ -21,6 +22,7 @@ use crate::show::Show;
 use command::{Command, Key};
 use entries::LoadFault;
 use loading::read_all;
+use lookup::{RequestCount, count_at};
 use part::{gather, gather_shown, judge};
 use roster::{Change, Roster, Verdict};
 use sqlite::{Alter, Connection};
@@ -167,6 +169,25 @@ impl<S: Alter> Store<S> {
         // As in `part`.
         let _live = self.conn.schema();
         shown
+    }
+
+    /// Reads how many requests are kept, and which number is free for the next, in no transaction, and changes nothing. No
+    /// command is read. A store's fault is 90, out of memory 91.
+    pub fn count(&mut self, alloc: Global) -> Result<RequestCount, StoreFault>
+        ensures count { (s : State) → Shows (state S.Store self.old) s
+            → HasCleanDisk (state S.Store self.new) → IfOk result (IsCount s) }
+
+        // As of `part`.
+        ensures unchanged { ChangesNothing (state S.Store self.old) (state S.Store self.new) }
+        ensures caused { IfErr result
+            (IsReadFault (state S.Store self.old) (state S.Store self.new)) }
+        ensures opened { OnOk result (IsOpen (state S.Store self.new)) }
+        ensures some_left { CrashLeavesSome (state S.Store self.new) }
+    {
+        let count = count_at(alloc, &mut self.conn);
+        // As in `part`.
+        let _live = self.conn.schema();
+        count
     }
 
     /// Writes a change that the step gave of the state that the tables hold, in one transaction. After out of memory (91)

@@ -28,7 +28,7 @@ pub fn reply_to_json(alloc: Global, reply: &Reply) -> Result<String, MemoryFault
 }
 
 /// Makes a value of JSON of a reply.
-fn reply_value(alloc: Global, reply: &Reply) -> Result<Value, MemoryFault>
+pub fn reply_value(alloc: Global, reply: &Reply) -> Result<Value, MemoryFault>
     ensures { IfOk result (λ value. view value ≡ spec.reply_json reply.now) }
 {
     let result = [("result", Scalar::Text("accepted"))];

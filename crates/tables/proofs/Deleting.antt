@@ -45,7 +45,8 @@ use Rattle.tables.specs.Calls.{HasStepLimit}
 use Rattle.tables.specs.Faults.{table_fault_of}
 use Rattle.tables.specs.declared.table_fault.TableFault.TheVariants.{Store}
 use Rattle.tables.specs.Schema.{BookTable, IsTable, IsUnreferenced, table_of}
-use Rattle.tables.specs.Rows.{cells, rows_of, AreNumbered, Changes, Deletes}
+use Rattle.tables.proofs.Apart.{left_apart, one_place}
+use Rattle.tables.specs.Rows.{cells, rows_of, StandApart, AreNumbered, Changes, Deletes}
 
 pub equal_is : (o : Ordering) → is_eq o ≡ true → o ≡ Equal
 equal_is Less h = absurd (cc)
@@ -143,14 +144,17 @@ module _ (kept : BookTable) (limit : Option ℕ) (old after : Database) (text : 
           | inl tied ↦ absurd (
               let r = deleted.has id k in
               let its : rowid r.0 ≡ Int id = own_number r.0 r.1 ∙ ap Int (sym r.3) in
-              let same = stored.apart m.0 r.0 m.1 r.1 (subst (λ v. value_cmp (rowid m.0) v ≡ Equal) (sym its) (equal_is _ tied)) in
+              let same = one_place rows stored.apart m.0 r.0 m.1 r.1 (subst (λ v. value_cmp (rowid m.0) v ≡ Equal) (sym its) (equal_is _ tied)) in
               let passes = ap test (m.2 ∙ ap (cells kept) same) ∙ r.2 in
               let fails = h.1 in
               cc)
           | inr other ↦ other
         ] in
         subst (Has (map (cells kept) (after.trees tree))) (sym m.2) (mapped_has (cells kept) (after.trees tree) m.0 (subst (λ l. Has l m.0) (sym rest) (left_has deleted.ids rows m.0 m.1 lacks)));
-    stored = λ _. record { numbered = λ r h. stored.numbered r (still r h).0; apart = λ a b h k tie. stored.apart a b (still a h).0 (still b k).0 tie };
+    stored = λ _. record {
+      numbered = λ r h. stored.numbered r (still r h).0;
+      apart = subst StandApart (sym rest) (left_apart deleted.ids rows stored.apart);
+    };
   }
 
   pub deletes : Changes kept old after (λ x. Has (rows_of kept old) x × (test x ≡ false))

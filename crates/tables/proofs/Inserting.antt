@@ -39,7 +39,8 @@ use Rattle.sqlite.specs.Does.{Tally, Does}
 use Rattle.sqlite.specs.declared.run.Mode.{Mode}
 use Rattle.sqlite.proofs.Callers.{one_step}
 use Rattle.tables.specs.Schema.{BookTable, IsTable, IsUnreferenced, table_of}
-use Rattle.tables.specs.Rows.{cells, AreNumbered, Changes, Inserts}
+use Rattle.tables.specs.Rows.{cells, StandApart, AreNumbered, Changes, Inserts}
+use Rattle.tables.proofs.Apart.{puts_apart}
 use Rattle.tables.proofs.Known.{some_same, place, stored_is, others_apart, rows_kept}
 
 -- ---- no foreign key acts
@@ -238,16 +239,7 @@ module _ (kept : BookTable) (limit : Option ℕ) (old after : Database) (text : 
       ];
       stored = λ stored. record {
         numbered = λ a h. elim (either_row a h) [ inl same ↦ rw same | inr was ↦ stored.numbered a was ];
-        apart = λ a b h k tie. elim (either_row a h) [
-          | inl first ↦ elim (either_row b k) [
-            | inl second ↦ first ∙ sym second
-            | inr was ↦ absurd (not_tied b was (tied_back value_cmp_total (rowid row) (rowid b) (rw first at tie)))
-          ]
-          | inr old ↦ elim (either_row b k) [
-            | inl second ↦ absurd (not_tied a old (rw second at tie))
-            | inr was ↦ stored.apart a b old was tie
-          ]
-        ];
+        apart = subst StandApart (sym grown) (puts_apart (row ∷ []) rows stored.apart fresh);
       };
     }
 

@@ -2,23 +2,24 @@
 use Rattle.std.proofs.Common.{zero, suc, Some, ◌≡◌, inl, inr, ℕ, ℤ, List, [], ◌∷◌, map, true, false, ◌&&◌, ◌==◌, eq-eqb, refl, sym, ap, subst, slice_get, slice_index_or, ◌∙◌, Ordering, Less, Equal, Greater}
 use Rattle.std.specs.Ordering.{is_eq, is_ne}
 use Rattle.std.proofs.lemmas.Bool.{cases_Bool, and_parts, and_from}
-use Rattle.std.proofs.lemmas.Cmp.{tied_back}
+use Rattle.std.proofs.lemmas.Cmp.{tied_back, tied_itself}
 use Rattle.sqlite_value.specs.declared.keys.Collation.TheVariants.{Binary}
 use Rattle.sqlite_value.specs.declared.value.Value.{Value}
 use Rattle.sqlite_value.specs.declared.value.Value.TheVariants.{Null, Int, Real, Text, Blob}
 use Rattle.sqlite_value.specs.Order.{Row, column, value_cmp}
 use Rattle.sqlite_value.specs.Keys.{plain, first_key}
 use Rattle.sqlite_value.proofs.OrderLemmas.{value_cmp_total}
-use Rattle.sqlite_trees.specs.Tree.{rowid}
+use Rattle.sqlite_trees.specs.Tree.{rowid, IsAscending}
 use Rattle.sqlite_sql.specs.Ops.{binary, is_null}
 use Rattle.sqlite_schema.specs.declared.schema.Constraint.TheVariants.{Unique}
 use Rattle.sqlite_schema.specs.Rules.{agree, clashes, differ, equal}
 use Rattle.sqlite_catalog.specs.Listing.{IsSound, automatic}
 use Rattle.sqlite_rules.specs.Lists.{Has}
-use Rattle.sqlite_rules.proofs.ListLemmas.{all_has, test_has, some_from}
+use Rattle.sqlite_rules.proofs.ListLemmas.{all_from, all_has, test_has, some_from}
 use Rattle.sqlite_rules.proofs.TableLemmas.{int_is}
 use Rattle.sqlite_rules.proofs.ProbeLemmas.{has_mapped}
 use Rattle.sqlite.specs.Effect.{Database}
+use Rattle.tables.proofs.Apart.{one_place}
 use Rattle.tables.proofs.Known.{listed, stored_is}
 use Rattle.tables.specs.Schema.{BookTable, table_of, IsTable, book_table, crew_table, pairing_table, period_table, segment_table, seat_table, ground_table, exceedance_table, request_table}
 use Rattle.tables.specs.Rows.{AreNumbered, IsStored, stored, rows_of, cells, begins_with}
@@ -67,7 +68,7 @@ module _ (kept : BookTable) (db : Database) (at : ℕ) (key : List ℕ) (got : s
             let ib = int_is (rowid b) (numbers.numbered b k) in
             rw (ia, ib) (not_ne _ (sym (differs _ _) ∙ rw (ia, ib) at equal))
       ] in
-      numbers.apart a b h k tied
+      one_place rows numbers.apart a b h k tied
 
 found : (a b v : Value) → is_null b ≡ false → is_eq (value_cmp a v) ≡ true → is_eq (value_cmp b v) ≡ true → equal Binary a b ≡ true
 found a b v some h k = compared a b some ∙ ap is_eq (value_cmp_total.congr a v b (equal_is _ h) ∙ tied_back value_cmp_total b v (equal_is _ k))
@@ -166,3 +167,36 @@ module _ (db : Database) (sound : IsSound db.schema db.trees) where
   pub request_once : IsTable request_table db.schema → IsStored request_table db → (number : ℤ) (part : ℤ) (x y : Row) → Has (rows_of request_table db) x → Has (rows_of request_table db) y → begins_with (Int number ∷ Int part ∷ []) x ≡ true → begins_with (Int number ∷ Int part ∷ []) y ≡ true → x ≡ y
   request_once there stored_apart number part x y h k =
       once_by_two request_table db (1 ∷ 2 ∷ []) [] refl there sound stored_apart x y h k (Int number) (Int part) refl (λ r. (refl, refl)) refl refl
+
+-- ---- no two places have rows of one key
+
+pub ascending_weaker : {X : Type 0} (R S : X → X → Type 0) (xs : List X) → ((a b : X) → Has xs a → Has xs b → R a b → S a b) → IsAscending R xs → IsAscending S xs
+ascending_weaker R S [] weaker up = tt
+ascending_weaker R S (x ∷ xs) weaker up = (
+  all_from (S x) xs (λ y h. weaker x y (inl refl) (inr h) (all_has (R x) xs y up.0 h)),
+  ascending_weaker R S xs (λ a b h k. weaker a b (inr h) (inr k)) up.1,
+)
+
+pub ascending_mapped : {X Y : Type 0} (f : X → Y) (R : Y → Y → Type 0) (xs : List X) → IsAscending (λ a b. R (f a) (f b)) xs → IsAscending R (map f xs)
+ascending_mapped f R [] up = tt
+ascending_mapped f R (x ∷ xs) up = (
+  all_from (R (f x)) (map f xs) (λ y h. let m = has_mapped f xs y h in subst (R (f x)) (sym m.2) (all_has (λ z. R (f x) (f z)) xs m.0 up.0 m.1)),
+  ascending_mapped f R xs up.1,
+)
+
+-- two rows of `request` are not of one key
+abbrev pub AreOfTwoKeys : Row → Row → Type 0
+AreOfTwoKeys x y = (number part : ℤ) → begins_with (Int number ∷ Int part ∷ []) x ≡ true → begins_with (Int number ∷ Int part ∷ []) y ≡ true → ⊥
+
+pub requests_apart : (db : Database) → IsSound db.schema db.trees → IsTable request_table db.schema → IsStored request_table db → IsAscending AreOfTwoKeys (rows_of request_table db)
+unfolding first_key
+requests_apart db sound there stored_apart =
+    ascending_mapped (cells request_table) AreOfTwoKeys (stored request_table db)
+    (ascending_weaker _ (λ a b. AreOfTwoKeys (cells request_table a) (cells request_table b)) (stored request_table db) (λ a b h k apart number part p q.
+    let first = and_parts _ _ p in
+    let second = and_parts _ _ q in
+    let agrees : agree plain (1 ∷ 2 ∷ []) a (1 ∷ 2 ∷ []) b ≡ true =
+    and_from _ _ (alike (column a 1) (column b 1) (Int number) refl first.0 second.0)
+    (and_from _ _ (alike (column a 2) (column b 2) (Int part) refl (and_parts _ _ first.1).0 (and_parts _ _ second.1).0) refl) in
+    let same = one_row request_table db 0 (1 ∷ 2 ∷ []) refl there sound stored_apart a b h k agrees in
+    apart (subst (λ r. value_cmp (rowid a) (rowid r) ≡ Equal) same (tied_itself value_cmp_total (rowid a)))) stored_apart.apart)

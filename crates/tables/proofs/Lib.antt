@@ -2,6 +2,7 @@ pub mod Known
 pub mod Compiling
 pub mod Survival
 pub mod Stopping
+pub mod Apart
 pub mod Inserting
 pub mod Statements
 pub mod Answering
@@ -14,6 +15,9 @@ pub mod Guarding
 pub mod Creating
 pub mod ReadingLemmas
 pub mod Selecting
+pub mod Greatest
+pub mod Tallying
+pub mod TallyMeant
 pub mod LoadingLemmas
 pub mod KeyLemmas
 pub mod Holding

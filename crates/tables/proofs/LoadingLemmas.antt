@@ -41,6 +41,7 @@ use Rattle.tables.specs.Texts.{HasInvalid, HasShown, IsUnnumbered, ShowsNumbered
 use Rattle.tables.specs.declared.table_fault.TableFault.{TableFault}
 use Rattle.tables.specs.declared.table_fault.TableFault.TheVariants.{NotARecord}
 use Rattle.tables.proofs.Answering.{plain_query, answer_ordered, has_permuted}
+use Rattle.tables.proofs.Apart.{distinct_places}
 use Rattle.tables.proofs.Deleting.{equal_is}
 use Rattle.tables.proofs.Refusing.{suits}
 use Rattle.tables.proofs.Selecting.{projected, shown_cells, answered, shows_invalid, unread, unread_as, map_same}
@@ -79,15 +80,6 @@ rising_differ (n ∷ m ∷ ns) h =
     let parts = and_parts (is_lt (int_cmp n m)) (rises_from m ns) h in
     ((unlike n m parts.0, rises_above m n ns parts.0 parts.1), rising_differ (m ∷ ns) parts.1)
 
--- where what is shown of rows differs, rows that show alike are one
-distinct_apart : (f : Row → Row) (e : Row → Row → Bool) (rows : List Row) → IsDistinct e (map f rows) → ((x y : Row) → e x y ≡ e y x) → (a b : Row) → Has rows a → Has rows b → e (f a) (f b) ≡ true → a ≡ b
-unfolding IsDistinct
-distinct_apart f e [] d flips a b h k same = absurd h
-distinct_apart f e (r ∷ rows) d flips a b (inl p) (inl q) same = p ∙ sym q
-distinct_apart f e (r ∷ rows) d flips a b (inl p) (inr q) same = absurd (let no = all_has _ (map f rows) (f b) d.0 (mapped_has f rows b q) in let yes' = rw p at same in cc)
-distinct_apart f e (r ∷ rows) d flips a b (inr p) (inl q) same = absurd (let no = all_has _ (map f rows) (f a) d.0 (mapped_has f rows a p) in let yes' = flips _ _ ∙ rw q at same in cc)
-distinct_apart f e (r ∷ rows) d flips a b (inr p) (inr q) same = distinct_apart f e rows d.1 flips a b p q same
-
 same_flips : (x y : Row) → same_first x y ≡ same_first y x
 same_flips x y = elim (cases_Bool (same_first x y)) [
   | inl one ↦ one ∙ sym (ap is_eq (tied_back value_cmp_total (column x 0) (column y 0) (equal_is _ one)))
@@ -99,15 +91,19 @@ same_flips x y = elim (cases_Bool (same_first x y)) [
 
 -- the rows of a table whose numbers are shown in rising order
 module _ (rows : List Row) (ns : List ℤ) (shown : IsPermutation (map (λ (r : Row). rowid r ∷ []) rows) (map one_number ns)) (rise : rises ns ≡ true) where
+  abbrev number_of : Row → Row
+  number_of r = rowid r ∷ []
+
+  differ : IsDistinct same_first (map number_of rows)
+  differ = IsDistinct-IsPermutation same_first same_flips (map one_number ns) (map number_of rows) (IsPermutation-sym _ _ shown) (rising_differ ns rise)
+
   pub rising_stored : AreNumbered rows
   rising_stored = record {
     numbered = λ r k.
         let there = has_permuted (map (λ (r : Row). rowid r ∷ []) rows) (map one_number ns) (rowid r ∷ []) shown (mapped_has (λ (r : Row). rowid r ∷ []) rows r k) in
         let n = has_mapped one_number ns (rowid r ∷ []) there in
         let is : rowid r ≡ Int n.0 = ap rowid n.2 in rw is;
-    apart = λ a b k l tie.
-        distinct_apart (λ (r : Row). rowid r ∷ []) same_first rows (IsDistinct-IsPermutation same_first same_flips (map one_number ns) (map (λ (r : Row). rowid r ∷ []) rows) (IsPermutation-sym _ _ shown) (rising_differ ns rise)) same_flips a b k l
-        (ap is_eq tie);
+    apart = distinct_places same_first number_of (λ a b tie. ap is_eq tie) rows differ;
   }
 
 -- ---- numbers in order that differ rise

@@ -41,7 +41,8 @@ use Rattle.tables.proofs.Refusing.{err_same, edit_told, queried_stops, refused_t
 use Rattle.tables.specs.Faults.{table_fault_of}
 use Rattle.tables.specs.declared.table_fault.TableFault.TheVariants.{Store}
 use Rattle.tables.specs.Schema.{BookTable, IsTable, IsUnreferenced, table_of}
-use Rattle.tables.specs.Rows.{cells, rows_of, AreNumbered, BecomesTooBig, Changes, Updates}
+use Rattle.tables.proofs.Apart.{left_apart, one_place, puts_apart}
+use Rattle.tables.specs.Rows.{cells, rows_of, StandApart, AreNumbered, BecomesTooBig, Changes, Updates}
 
 module _ (kept : BookTable) (rows : List Row) (stored : AreNumbered rows) (test : Row → Bool) (ids : List ℤ)
     (all : (r : Row) → Has rows r → test (cells kept r) ≡ true → Has ids (id_in (rowid r)))
@@ -63,7 +64,7 @@ module _ (kept : BookTable) (rows : List Row) (stored : AreNumbered rows) (test 
     | inl tied ↦ absurd (
         let q = has id k in
         let its : rowid q.0 ≡ Int id = own_number q.0 q.1 ∙ ap Int (sym q.3) in
-        let same = stored.apart r q.0 h q.1 (subst (λ v. value_cmp (rowid r) v ≡ Equal) (sym its) (equal_is _ tied)) in
+        let same = one_place rows stored.apart r q.0 h q.1 (subst (λ v. value_cmp (rowid r) v ≡ Equal) (sym its) (equal_is _ tied)) in
         let passes = ap test (ap (cells kept) same) ∙ q.2 in
         cc)
     | inr other ↦ other
@@ -166,16 +167,7 @@ module _ (kept : BookTable) (limit : Option ℕ) (old after : Database) (text : 
     ];
     stored = λ _. record {
       numbered = λ a h. elim (either_row a h) [ inl n ↦ rw n.3 (stored.numbered n.0 n.1) | inr was ↦ stored.numbered a was.0 ];
-      apart = λ a b h k tie. elim (either_row a h) [
-        | inl n ↦ elim (either_row b k) [
-          | inl m ↦ n.3 ∙ ap written (stored.apart n.0 m.0 n.1 m.1 (rw (n.3, m.3) at tie)) ∙ sym m.3
-          | inr was ↦ absurd (let same = stored.apart n.0 b n.1 was.0 (rw n.3 at tie) in let one = ap (λ r. test (cells kept r)) same in let yes' = n.2 in let no' = was.1 in cc)
-        ]
-        | inr was ↦ elim (either_row b k) [
-          | inl m ↦ absurd (let same = stored.apart a m.0 was.0 m.1 (rw m.3 at tie) in let one = ap (λ r. test (cells kept r)) same in let yes' = m.2 in let no' = was.1 in cc)
-          | inr also ↦ stored.apart a b was.0 also.0 tie
-        ]
-      ];
+      apart = subst StandApart (sym updated.rows_are) (puts_apart updated.news (without_all rows updated.ids) (left_apart updated.ids rows stored.apart) updated.fresh);
     };
   }
 

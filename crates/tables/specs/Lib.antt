@@ -1,6 +1,7 @@
 pub mod Schema
 pub mod Rows
 pub mod Records
+pub mod Tally
 pub mod Faults
 pub mod Declarations
 pub mod Calls

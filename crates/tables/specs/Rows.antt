@@ -7,7 +7,7 @@ use Rattle.std.specs.List.{AllByRecursion}
 use Rattle.sqlite_value.specs.declared.value.Value.{Value}
 use Rattle.sqlite_value.specs.declared.value.Value.TheVariants.{Int}
 use Rattle.sqlite_value.specs.Order.{Row, column, value_cmp}
-use Rattle.sqlite_trees.specs.Tree.{Trees, rowid}
+use Rattle.sqlite_trees.specs.Tree.{Trees, rowid, IsAscending}
 use Rattle.sqlite_trees.specs.View.{is_int}
 use Rattle.sqlite_sql.specs.Ops.{fits_i64}
 use Rattle.sqlite_rules.specs.Edit.{IsOversized, is_taken, next_rowid}
@@ -44,10 +44,14 @@ stored table db = kept_in db.trees (table_found db.schema table.name)
 abbrev pub rows_of : BookTable → Database → List Row
 rows_of table db = map (cells table) (stored table db)
 
+-- no two places of the list have rows that are stored under one number
+abbrev pub StandApart : List Row → Type 0
+StandApart = IsAscending (λ a b. value_cmp (rowid a) (rowid b) ≢ Equal)
+
 -- each row of the list is stored under a number of its own
 pub record AreNumbered (rows : List Row) : Type 0 where
   pub numbered : (r : Row) → Has rows r → is_int (rowid r) ≡ true
-  pub apart : (a b : Row) → Has rows a → Has rows b → value_cmp (rowid a) (rowid b) ≡ Equal → a ≡ b
+  pub apart : StandApart rows
 
 -- each row of the table is stored under a number of its own
 abbrev pub IsStored : BookTable → Database → Type 0

@@ -1,3 +1,4 @@
+pub mod TakenIn
 pub mod WholeLemmas
 pub mod HandLemmas
 pub mod DialogueLemmas

@@ -5,7 +5,7 @@ use Rattle.std.proofs.lemmas.List.{take-append-le}
 use Rattle.httparse.specs.Grammar.{print_request}
 use Rattle.http_message.specs.Extents.{body_length}
 use Rattle.http_message.specs.Heading.{heading}
-use Rattle.http_message.specs.Plan.{Step, plan_for_head, refuse, receive, show, show_desk}
+use Rattle.http_message.specs.Plan.{Step, plan_for_head, refuse, receive, show, show_count, show_desk}
 use Rattle.http_message.specs.declared.extents.Extent.TheVariants.{Known}
 use Rattle.http_message.specs.declared.extents.Settled.{Settled}
 use Rattle.waiting.specs.Whole.{AsksTheSame, HasWaitingHead, IsKnown, IsWhole}
@@ -15,6 +15,7 @@ asks_the_same : (step : Step) (rest : List ℕ) → body_length step ≤ length 
 asks_the_same (refuse fault) rest enough more = refl
 asks_the_same (show what form) rest enough more = refl
 asks_the_same show_desk rest enough more = refl
+asks_the_same show_count rest enough more = refl
 asks_the_same (receive expected) rest enough more =
     let here : nat_lt (length rest) expected.length ≡ false = grind (arith, nat_tests) in
     let there : nat_lt (length (rest ++ more)) expected.length ≡ false = grind (arith, nat_tests, length-append rest more) in

@@ -8,17 +8,19 @@ use Rattle.stored_json.specs.declared.fault.CodecFault.TheVariants.{BadCsv}
 use Rattle.codec.specs.Requests.{read_request}
 use Rattle.codec.specs.Schedule.{IsAtFault, IsSchedule}
 use Rattle.codec.proofs.EachText.{is_schedule_or_at_fault}
+use Rattle.asking.proofs.CountTexts.{each_has_count_text}
 use Rattle.asking.proofs.ShownAs.{each_is_shown_as}
 use Rattle.http_message.specs.Plan.{Planned}
-use Rattle.http_message.specs.declared.plan.Submission.TheVariants.{Command, Check, Import}
+use Rattle.http_message.specs.declared.plan.Submission.TheVariants.{Command, Check, Import, Lines, LineChecks}
 use Rattle.http_message.specs.declared.refusals.RequestFault.{RequestFault}
 use Rattle.http_exchange.specs.Exchange as exchange
 use Rattle.http_exchange.specs.Exchange.{asks}
 use Rattle.http_exchange.specs.Final.{Final, of_answer, of_fault}
 use Rattle.http_exchange.specs.Handler as http
 use Rattle.http_exchange.specs.Handler.{StatusText, submit}
-use Rattle.web.specs.Acts.{Asks, Commands, IsAnswer, commands_of_body, request_answer}
-use Rattle.web.specs.Answers.{desk_answer, fault_answer, parts_answer, report_answer}
+use Rattle.asking.specs.Lines.{commands_in, requests_in}
+use Rattle.web.specs.Acts.{Asks, Commands, IsAnswer, answer_to_checks, answer_to_lines, commands_of_body, request_answer}
+use Rattle.web.specs.Answers.{count_answer, desk_answer, fault_answer, parts_answer, report_answer}
 use Rattle.web.specs.Response.{IsFinal, IsResponseTo, WholeResponse}
 
 -- ---- What is asked, and its answer
@@ -54,11 +56,18 @@ module _ (s : State) where
   }
   each_met sound (submit Check body) =
       record { commands = []; answer = request_answer s (read_request body); asks_them = refl; told = refl }
+  each_met sound (submit Lines body) =
+      record { commands = commands_in (requests_in body); answer = answer_to_lines s (requests_in body); asks_them = refl; told = refl }
+  each_met sound (submit LineChecks body) =
+      record { commands = []; answer = answer_to_checks s (requests_in body); asks_them = refl; told = refl }
   each_met sound (submit (Import number) body) = met_import number body (is_schedule_or_at_fault body)
   each_met sound (http.show what form) =
       let shown = each_is_shown_as form s what sound in
       record { commands = []; answer = report_answer form shown.0; asks_them = refl; told = (shown.0, shown.1, refl) }
   each_met sound http.show_desk = record { commands = []; answer = desk_answer; asks_them = refl; told = refl }
+  each_met sound http.show_count =
+      let text = each_has_count_text s sound in
+      record { commands = []; answer = count_answer text.0; asks_them = refl; told = (text.0, text.1, refl) }
 
   -- ---- The response
 

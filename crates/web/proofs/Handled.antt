@@ -72,7 +72,7 @@ pub still_means : {S : Type 0} (g : Ghosts S) (old now : Kept S) (s : State) →
 still_means g old now s has = (still g now s has, λ clean was_open. inl (has clean).0)
 
 module _ {S : Type 0} (g : Ghosts S) (book : Kept S) where
-  unasked_kept : (result : Result StatusText HandlerFault) → answers_store_fault result ≡ false → HoldsWhateverIsAsked g book book result
+  pub unasked_kept : (result : Result StatusText HandlerFault) → answers_store_fault result ≡ false → HoldsWhateverIsAsked g book book result
   unasked_kept result none = record {
     failed = or_false book.failed ∙ ap (λ b. book.failed || b) (sym none);
     shut = λ _. refl;
@@ -308,7 +308,7 @@ module _ {S : Type 0} (g : Ghosts S) (old new : Kept S) where
   -- ---- what keeps nothing
 
   module _ (calls : IsAfterCalls g old new) {A : Type 0} (r : Result A StoreFault) (call : HasRead g old new r) where
-    kept_so : (told : Result StatusText HandlerFault) → answers_store_fault told ≡ kept.is_store_fault r → HoldsWhateverIsAsked g old new told
+    pub kept_so : (told : Result StatusText HandlerFault) → answers_store_fault told ≡ kept.is_store_fault r → HoldsWhateverIsAsked g old new told
     kept_so told same = record {
       failed = call.failed ∙ ap (λ b. old.failed || b) (sym same);
       shut = λ f. (call.shut f).1;
@@ -318,7 +318,7 @@ module _ {S : Type 0} (g : Ghosts S) (old new : Kept S) where
       calls = calls;
     }
 
-    shows : (s : State) → HasTablesOf g old s → StillHasTables g new s
+    pub shows : (s : State) → HasTablesOf g old s → StillHasTables g new s
     shows s has = λ c is_open.
         let now = call.unchanged.still_shown c is_open in
         subst (IsBookOf s) (sym now.1) (has (call.unchanged.nothing_new.disk c)).1

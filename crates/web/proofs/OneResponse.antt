@@ -3,19 +3,20 @@ use Rattle.std.proofs.Common.{◌≡◌, ◌∙◌, ap, sym, subst, refl, inl, i
 use Rattle.httparse.proofs.GrammarLemmas.{request_unique}
 use Rattle.codec.proofs.OneReading.{has_no_fault, has_one_fault, is_of_one_list}
 use Rattle.stored_json.specs.declared.fault.CodecFault.TheVariants.{BadCsv}
+use Rattle.asking.proofs.CountTexts.{one_count_text}
 use Rattle.asking.proofs.ShownAs.{one_shown_as}
 use Rattle.roster.specs.Folds.{Replies, import}
 use Rattle.roster.specs.State.{State}
 use Rattle.http_message.specs.Heading.{heading}
 use Rattle.http_message.specs.Plan.{Planned, plan_for_head}
-use Rattle.http_message.specs.declared.plan.Submission.TheVariants.{Command, Check, Import}
+use Rattle.http_message.specs.declared.plan.Submission.TheVariants.{Command, Check, Import, Lines, LineChecks}
 use Rattle.http_message.specs.declared.refusals.RequestFault.{RequestFault}
 use Rattle.http_exchange.specs.Exchange.{asks}
 use Rattle.http_exchange.specs.Final.{Final, of_answer}
 use Rattle.http_exchange.specs.Handler as http
 use Rattle.http_exchange.specs.Handler.{StatusText, submit}
 use Rattle.web.specs.Acts.{Asks, Commands, IsAnswer}
-use Rattle.web.specs.Answers.{fault_answer, parts_answer, report_answer}
+use Rattle.web.specs.Answers.{count_answer, fault_answer, parts_answer, report_answer}
 use Rattle.web.specs.Laws.{HasOneResponse}
 use Rattle.web.specs.Response.{IsFinal, IsResponseTo, WholeResponse}
 
@@ -30,9 +31,12 @@ one_import number body a b (inr (line, at_fault, none)) (inr (line', at_fault', 
 one_list : (asked : http.HandlerRequest) (a b : Commands) → Asks asked a → Asks asked b → a ≡ b
 one_list (submit Command body) a b is is' = is ∙ sym is'
 one_list (submit Check body) a b is is' = is ∙ sym is'
+one_list (submit Lines body) a b is is' = is ∙ sym is'
+one_list (submit LineChecks body) a b is is' = is ∙ sym is'
 one_list (submit (Import number) body) a b is is' = one_import number body a b is is'
 one_list (http.show what form) a b is is' = is ∙ sym is'
 one_list http.show_desk a b is is' = is ∙ sym is'
+one_list http.show_count a b is is' = is ∙ sym is'
 
 -- ---- the answer
 
@@ -48,10 +52,13 @@ module _ (s : State) where
   one_answer : (asked : http.HandlerRequest) (a b : StatusText) → IsAnswer s asked a → IsAnswer s asked b → a ≡ b
   one_answer (submit Command body) a b is is' = is ∙ sym is'
   one_answer (submit Check body) a b is is' = is ∙ sym is'
+  one_answer (submit Lines body) a b is is' = is ∙ sym is'
+  one_answer (submit LineChecks body) a b is is' = is ∙ sym is'
   one_answer (submit (Import number) body) a b is is' = one_schedule_answer number body a b is is'
   one_answer (http.show what form) a b (shown, is, told) (shown', is', told') =
       told ∙ ap (report_answer form) (one_shown_as form s what shown shown' is is') ∙ sym told'
   one_answer http.show_desk a b is is' = is ∙ sym is'
+  one_answer http.show_count a b (text, is, told) (text', is', told') = told ∙ ap count_answer (one_count_text s text text' is is') ∙ sym told'
 
   -- ---- the response
 

@@ -20,7 +20,7 @@ use Rattle.book.specs.declared.answer.Answer.{Answer}
 use Rattle.book.proofs.States.{one_of_either}
 use Rattle.asking.proofs.Chains.{AreAskedUpTo, all_parts, parts_heard, parts_to_fault}
 use Rattle.asking.proofs.Parts.{schedule_made}
-use Rattle.asking.specs.Answers.{answer_json}
+use Rattle.asking.specs.Answers.{answer_json, with_commas}
 use Rattle.asking.specs.Schedules.{HasHeard, IsScheduleAsked}
 use Rattle.asking.specs.declared.schedules.NotAllAsked.{NotAllAsked}
 use Rattle.asking.specs.declared.schedules.NotAllAsked.TheVariants.{Unread, Ask, Unheard}
@@ -30,7 +30,7 @@ use Rattle.http_message.specs.declared.plan.Submission.TheVariants.{Import}
 use Rattle.http_exchange.specs.Handler.{StatusText, submit}
 use Rattle.http_exchange.specs.declared.handler.HandlerFault.{HandlerFault}
 use Rattle.http_exchange.specs.declared.handler.HandlerFault.TheVariants.{Store, Memory}
-use Rattle.web.specs.Answers.{TellsAnswer, fault_answer, handler_fault_of, json, parts_answer, parts_text, with_commas}
+use Rattle.web.specs.Answers.{TellsAnswer, fault_answer, handler_fault_of, json, parts_answer, parts_text}
 use Rattle.web.specs.Handling.{HoldsWhateverIsAsked, IsHandled, IsPartAdded, answers_store_fault}
 use Rattle.web.specs.Serving.{StillMeans}
 use Rattle.web.specs.declared.parts.PartsText.{PartsText}
@@ -40,11 +40,11 @@ use Rattle.web.proofs.Handled.{AreAdded, no_memory, schedule_read, schedule_unre
 
 -- the parts from the second on, each after a comma
 others_heard : (part : ℕ) (answers : List Answer) (old new : PartsText) → 1 < part → HasHeard IsPartAdded old part answers new
-    → string_bytes new.text ≡ string_bytes old.text ++ flat_map (λ a. codes "," ++ answer_json a) (map result_of answers)
+    → string_bytes new.text ≡ string_bytes old.text ++ flat_map (λ t. codes "," ++ t) (map answer_json (map result_of answers))
 others_heard part [] old new past same = ap (λ (p : PartsText). string_bytes p.text) same ∙ sym (append-nil (string_bytes old.text))
 others_heard part (answer ∷ answers) old new past (mid, added, rest) =
     let text = codes "," ++ answer_json (result_of answer) in
-    let others = flat_map (λ a. codes "," ++ answer_json a) (map result_of answers) in
+    let others = flat_map (λ t. codes "," ++ t) (map answer_json (map result_of answers)) in
     let later : nat_lt 1 part ≡ true = grind (arith, nat_tests) in
     let with_comma = subst (λ b. string_bytes mid.text ≡ string_bytes old.text ++ ((if b then codes "," else []) ++ answer_json (result_of answer))) later added in
     others_heard (part + 1) answers mid new (omega (arith, past)) rest
@@ -52,21 +52,21 @@ others_heard part (answer ∷ answers) old new past (mid, added, rest) =
     ∙ append_assoc (string_bytes old.text) text others
 
 all_heard : (answers : List Answer) (old new : PartsText) → HasHeard IsPartAdded old 1 answers new
-    → string_bytes new.text ≡ string_bytes old.text ++ with_commas (map result_of answers)
+    → string_bytes new.text ≡ string_bytes old.text ++ with_commas (map answer_json (map result_of answers))
 all_heard [] old new same = ap (λ (p : PartsText). string_bytes p.text) same ∙ sym (append-nil (string_bytes old.text))
 all_heard (answer ∷ answers) old new (mid, added, rest) =
     let text = answer_json (result_of answer) in
-    let others = flat_map (λ a. codes "," ++ answer_json a) (map result_of answers) in
+    let others = flat_map (λ t. codes "," ++ t) (map answer_json (map result_of answers)) in
     others_heard 2 answers mid new (omega arith) rest
     ∙ ap (λ t. t ++ others) added
     ∙ append_assoc (string_bytes old.text) text others
 
 -- the whole text
-whole_text : (old new : PartsText) (answers : List ReplyOrRefusal) → string_bytes old.text ≡ codes "{\"parts\":[" → string_bytes new.text ≡ string_bytes old.text ++ with_commas answers
+whole_text : (old new : PartsText) (answers : List ReplyOrRefusal) → string_bytes old.text ≡ codes "{\"parts\":[" → string_bytes new.text ≡ string_bytes old.text ++ with_commas (map answer_json answers)
     → string_bytes new.text ++ codes "]}" ≡ parts_text answers
 whole_text old new answers begun heard =
-    ap (λ t. t ++ codes "]}") (heard ∙ ap (λ t. t ++ with_commas answers) begun)
-    ∙ append_assoc (codes "{\"parts\":[") (with_commas answers) (codes "]}")
+    ap (λ t. t ++ codes "]}") (heard ∙ ap (λ t. t ++ with_commas (map answer_json answers)) begun)
+    ∙ append_assoc (codes "{\"parts\":[") (with_commas (map answer_json answers)) (codes "]}")
 
 -- ---- what became of the parts
 

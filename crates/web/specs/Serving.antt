@@ -160,8 +160,8 @@ module _ {S : Type 0} (g : Ghosts S) (s : State) where
       ⊎ ((asked : HandlerRequest) × (commands : Commands) × Asks asked commands
       × IsLeftBy old new commands)
 
--- what an input is served by a book that has failed: why a body isn't read, the page of the desk,
--- and to a request that is read, that the store failed
+-- what an input is served by a book that has failed: why nothing of a body is read, the page of the
+-- desk, and to a request that is read, that the store failed
 abbrev pub IsServedShut : {S : Type 0} → ChannelBytes → ChannelBytes → ChannelBytes → ChannelBytes
     → Kept S → Kept S → Served → Type 0
 IsServedShut had left out out' old new it =

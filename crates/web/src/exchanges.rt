@@ -1,5 +1,5 @@
 //! One exchange with a book. The response to an input in a state is `specs/Response.antt`.
-//! What clients send and are answered: `tests/exchanges.py`. Wrong bodies: `must-fail-more/`.
+//! What clients send and are answered: `tests/exchanges.py`. Wrong bodies: `must-fail/` and `must-fail-more/`.
 ghost use Rattle.std.specs.Prelude.{◌≡◌, IfErr, IfOk, IsTrue};
 ghost use Rattle.roster.specs.Honest.{Honest};
 ghost use Rattle.roster.specs.State.{State};
@@ -10,9 +10,9 @@ ghost use Rattle.book.specs.Calls.{IsAfterCalls};
 ghost use Rattle.book.specs.Kept.{IsDurablyAt, IsClean};
 ghost use Rattle.web.specs.Serving as spec;
 
-use crate::answers::{respond, show, show_desk};
+use crate::answers::{respond, respond_lines, show, show_count, show_desk};
 use crate::imports::answer_schedule;
-use asking::{ask_report, ask_request, check_request};
+use asking::{ask_count, ask_lines, ask_report, ask_request, check_lines, check_request};
 use book::Book;
 use http_exchange::{ChannelFault, Handler, HandlerFault, Request, Response, Served};
 use http_message::Submission;
@@ -37,22 +37,29 @@ impl<S: Alter> Handler<Book<S>> for BookHandler {
         match request {
             Request::Submit(Submission::Command, body) => respond(ask_request(alloc, book, body)),
             Request::Submit(Submission::Check, body) => respond(check_request(alloc, book, body)),
+            Request::Submit(Submission::Lines, body) => {
+                respond_lines(ask_lines(alloc, book, body))
+            }
+            Request::Submit(Submission::LineChecks, body) => {
+                respond_lines(check_lines(alloc, book, body))
+            }
             Request::Submit(Submission::Import(number), body) => {
                 answer_schedule(alloc, book, *number, body)
             }
             Request::Show(subject, form) => {
-                show(alloc, *form, ask_report(alloc, book, *subject, *form))
+                show(alloc, *form, ask_report(alloc, book, subject, *form))
             }
             Request::ShowDesk => show_desk(alloc),
+            Request::ShowCount => show_count(alloc, ask_count(alloc, book)),
         }
     }
 }
 
-/// Reads a request, has the book answer it, and writes the response (RFC 9112): a command, which may only be checked, a
-/// schedule to be imported, a report, or the page of the desk.
+/// Reads a request, has the book answer it, and writes the response (RFC 9112): a command, or commands, one a line, which may
+/// only be checked, a schedule to be imported, a report, the count of requests, or the page of the desk.
 /// Nothing is read past the head and the body that it announces. Where the book's store fails (90) or no memory is found (91), 503
-/// says so; after 91 the request may be made again, under its number. A book that has failed does nothing more: a body that isn't
-/// read is refused all the same, the page is shown, and what is read gets 503 (90).
+/// says so; after 91 the request may be made again, under its number. A book that has failed does nothing more: a body of which
+/// nothing is read is answered all the same, the page is shown, and what is read gets 503 (90).
 pub fn exchange<R: Read, W: Write, S: Alter>(
     alloc: Global,
     reader: &mut R,

@@ -123,7 +123,7 @@ module _ (db : Database) (made : List BookTable) (it : HasEmpty made db) (a : St
   no_rows = ap (map (cells (table a))) is_empty.1
 
   none_numbered : AreNumbered []
-  none_numbered = record { numbered = λ r h. absurd h; apart = λ r q h k. absurd h }
+  none_numbered = record { numbered = λ r h. absurd h; apart = tt }
 
   pub none_stored : IsStored (table a) db
   none_stored = subst AreNumbered (sym is_empty.1) none_numbered

@@ -1,13 +1,15 @@
-//! All that a book shows of two members and two pairings, a member's limits, its exceedances and its lists, as one text.
+//! All that a book shows of two members and two pairings, a member's limits, its exceedances and its lists, and what it keeps under the
+//! first number, as one text.
 
 use crate::fault::Fault;
 use book::{Book, Show};
 use duty::{CrewId, PairingId};
 use limits_report::limits_text;
 use report::{
-    ReportFault, exceedance_text, members_text, pairing_text, pairings_text, roster_text,
+    ReportFault, board_text, exceedance_text, members_text, pairing_text, pairings_text,
+    request_text, roster_text,
 };
-use request::{Listed, Subject};
+use request::{Listed, RequestNumber, Subject};
 use sqlite::Alter;
 use std::alloc::Global;
 use values::{MemoryFault, Text};
@@ -15,7 +17,7 @@ use values::{MemoryFault, Text};
 /// What is shown.
 type Report = Subject<&'static str, &'static str>;
 
-const REPORTS: [Report; 9] = [
+const REPORTS: [Report; 10] = [
     Report::Crew("C1"),
     Report::Crew("F1"),
     Report::Limits {
@@ -28,6 +30,7 @@ const REPORTS: [Report; 9] = [
     Report::Members,
     Report::Pairings(Listed::All),
     Report::Pairings(Listed::Open),
+    Report::Request(RequestNumber::FIRST),
 ];
 
 /// A copy of an id.
@@ -50,6 +53,8 @@ fn show_of(alloc: Global, report: Report) -> Result<Show, Fault> {
         Report::Exceedances => Show::Exceedances,
         Report::Members => Show::Members,
         Report::Pairings(which) => Show::Pairings(which),
+        Report::Board(days) => Show::Board(days),
+        Report::Request(number) => Show::Request(number),
     })
 }
 
@@ -73,6 +78,8 @@ fn text_of<S: Alter>(alloc: Global, book: &mut Book<S>, what: &Show) -> Result<S
         Show::Exceedances => exceedance_text(alloc, &roster),
         Show::Members => as_report(members_text(alloc, &roster)),
         Show::Pairings(which) => as_report(pairings_text(alloc, &roster, *which)),
+        Show::Board(days) => as_report(board_text(alloc, &roster, *days)),
+        Show::Request(number) => as_report(request_text(alloc, &roster, *number)),
     };
     drop(roster);
     match text {

@@ -134,7 +134,8 @@ fn shows_nothing<S: Alter>(alloc: Global, book: &mut Book<S>) -> Result<bool, Fa
     };
     let shows_no_limits = shows_no(alloc, book, limits);
     let shows_no_exceedances = shows_no(alloc, book, Show::Exceedances);
-    Ok(shows_no_crew && shows_no_limits && shows_no_pairing && shows_no_exceedances)
+    let has_no_count = is_shut(&book.count(alloc));
+    Ok(shows_no_crew && shows_no_limits && shows_no_pairing && shows_no_exceedances && has_no_count)
 }
 
 /// Whether each command is answered 90.

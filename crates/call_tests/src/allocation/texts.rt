@@ -9,12 +9,14 @@ use command::Command;
 use duty::{CrewId, Pairing, PairingId};
 use limits_report::limits_text;
 use report::{
-    ReportFault, exceedance_text, members_text, pairing_text, pairings_text, roster_text,
+    ReportFault, board_text, exceedance_text, members_text, pairing_text, pairings_text,
+    request_text, roster_text,
 };
 use report_json::{
-    exceedances_json, limits_json, members_json, pairing_json, pairings_json, roster_json,
+    board_json, exceedances_json, limits_json, members_json, pairing_json, pairings_json,
+    request_json, roster_json,
 };
-use request::{Form, Listed, Subject};
+use request::{Days, Form, Listed, RequestNumber, Subject};
 use roster::Roster;
 use std::alloc::Global;
 use stored_json::CodecFault;
@@ -80,6 +82,8 @@ fn text_once(
         Subject::Exceedances => exceedance_text(alloc, roster),
         Subject::Members => as_report(members_text(alloc, roster)),
         Subject::Pairings(which) => as_report(pairings_text(alloc, roster, which)),
+        Subject::Board(days) => as_report(board_text(alloc, roster, days)),
+        Subject::Request(number) => as_report(request_text(alloc, roster, number)),
     }
 }
 
@@ -95,6 +99,8 @@ fn json_once(
         Subject::Exceedances => as_report(exceedances_json(alloc, roster)),
         Subject::Members => as_report(members_json(alloc, roster)),
         Subject::Pairings(which) => as_report(pairings_json(alloc, roster, which)),
+        Subject::Board(days) => as_report(board_json(alloc, roster, days)),
+        Subject::Request(number) => as_report(request_json(alloc, roster, number)),
     }
 }
 
@@ -130,7 +136,8 @@ fn add_report(
     Ok(())
 }
 
-/// Makes the reports of all members and all pairings, that of the exceedances, and the lists.
+/// Makes the reports of all members and all pairings, that of the exceedances, the lists, the board of two days, and that of the first
+/// request.
 fn all_reports(
     alloc: Global,
     reports: &mut MemoryReports,
@@ -159,6 +166,19 @@ fn all_reports(
     for &subject in &LISTS {
         add_report(alloc, reports, roster, subject, form, &mut text)?;
     }
+    let Some(days) = Days::read("2025-06-11", "2025-06-12") else {
+        return Err(Fault::Otherwise);
+    };
+    add_report(
+        alloc,
+        reports,
+        roster,
+        Subject::Board(days),
+        form,
+        &mut text,
+    )?;
+    let first = Subject::Request(RequestNumber::FIRST);
+    add_report(alloc, reports, roster, first, form, &mut text)?;
     Ok(text)
 }
 
@@ -173,7 +193,25 @@ pub fn report_all(alloc: Global, reports: &mut MemoryReports, form: Form) -> Res
 /// Makes all reports of a roster in JSON, and counts their lines and bytes.
 pub fn count_json(alloc: Global, reports: &mut MemoryReports) -> Result<String, Fault> {
     let text = report_all(alloc, reports, Form::Json)?;
-    Ok(format!(in alloc; "{} reports, {} bytes", text.lines().count(), text.len())?)
+    let count = count_text(alloc, reports, Some(RequestNumber::FIRST))?;
+    let last = count_text(alloc, reports, None)?;
+    let lines = text.lines().count();
+    Ok(format!(in alloc; "{lines} reports, {} bytes\n{count}{last}", text.len())?)
+}
+
+/// Makes the text of a count of two requests, again where there is no memory.
+fn count_text(
+    alloc: Global,
+    reports: &mut MemoryReports,
+    next: Option<RequestNumber>,
+) -> Result<String, MemoryFault> {
+    match report_json::count_json(alloc, 2, next) {
+        Ok(text) => Ok(text),
+        Err(_) => {
+            reports.memory = true;
+            report_json::count_json(alloc, 2, next)
+        }
+    }
 }
 
 // ---- Schedules.

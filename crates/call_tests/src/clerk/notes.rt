@@ -37,11 +37,16 @@ fn note_of(alloc: Global, request: &Request<'_>) -> Result<String, AllocError> {
             format!(in alloc; "command {}", text_of(body))
         }
         Request::Submit(Submission::Check, body) => { format!(in alloc; "check {}", text_of(body)) }
+        Request::Submit(Submission::Lines, body) => { format!(in alloc; "lines {}", text_of(body)) }
+        Request::Submit(Submission::LineChecks, body) => {
+            format!(in alloc; "line checks {}", text_of(body))
+        }
         Request::Submit(Submission::Import(number), body) => {
             format!(in alloc; "import {} {}", number.get(), text_of(body))
         }
         Request::Show(subject, form) => format!(in alloc; "{form:?} of {subject:?}"),
         Request::ShowDesk => String::from_str(alloc, "desk"),
+        Request::ShowCount => String::from_str(alloc, "count"),
     }
 }
 

@@ -2,7 +2,7 @@ use Rattle.std.proofs.Common.{rules}
 use Rattle.http_message.specs.Plan.{plan_for_head}
 use Rattle.http_exchange.proofs.Exchanging.{served, broken_off, nothing_responds, nothing_broken, answered, answer_unwritten}
 use Rattle.http_exchange.proofs.exchanges.exchange.Goals as goal
-use Rattle.http_exchange.proofs.exchanges.exchange.Goals.{in-Body, in-Desk, in-Report}
+use Rattle.http_exchange.proofs.exchanges.exchange.Goals.{in-Body, in-Count, in-Desk, in-Report}
 
 pub returns-in_err-to-clause-failed : goal.returns-in_err-to-clause-failed
 returns-in_err-to-clause-failed g c =
@@ -35,6 +35,9 @@ returns-in_err-status-clause-failed g c =
       | in-Desk w ↦
           let asked = rw w.in-Desk.is at c.in_ok-to.ensures in
           rw w.kept-is (answer_unwritten handles plan _ _ _ _ _ _ _ _ _ c.in_err-status.field-0.0 asked w.handle-answer-in-Desk.ensures c.in_err-status.ensures)
+      | in-Count w ↦
+          let asked = rw w.in-Count.is at c.in_ok-to.ensures in
+          rw w.kept-is (answer_unwritten handles plan _ _ _ _ _ _ _ _ _ c.in_err-status.field-0.0 asked w.handle-answer-in-Count.ensures c.in_err-status.ensures)
     ]) in
     search (rules, off)
 
@@ -57,4 +60,8 @@ returns-clause-served g c =
           let asked = rw w.in-Desk.is at c.in_ok-to.ensures in
           let told = rw c.is_for_head.ensures at (rw w.answer-is at c.in_ok-status.ensures) in
           rw w.kept-is (answered handles plan _ _ _ _ _ _ _ _ _ c.in_ok-status.status asked w.handle-answer-in-Desk.ensures told)
+      | in-Count w ↦
+          let asked = rw w.in-Count.is at c.in_ok-to.ensures in
+          let told = rw c.is_for_head.ensures at (rw w.answer-is at c.in_ok-status.ensures) in
+          rw w.kept-is (answered handles plan _ _ _ _ _ _ _ _ _ c.in_ok-status.status asked w.handle-answer-in-Count.ensures told)
     ])

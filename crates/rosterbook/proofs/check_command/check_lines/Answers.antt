@@ -1,6 +1,6 @@
 use Rattle.std.proofs.Common.{◌++◌, ◌∙◌, ◌∷◌, [], refl, subst, sym, vec_items}
 use Rattle.book.proofs.CallLemmas.{no_calls, then_calls}
-use Rattle.rosterbook.specs.InLines.{not_empty}
+use Rattle.asking.specs.Lines.{not_empty}
 use Rattle.rosterbook.specs.Showing.{IsShowStopped}
 use Rattle.rosterbook.specs.declared.status.Status.TheVariants.{Done}
 use Rattle.rosterbook.proofs.LinesChecked.{lines_checked, none_checked}

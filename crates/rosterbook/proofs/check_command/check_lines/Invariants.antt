@@ -2,7 +2,8 @@ use Rattle.std.proofs.Common.{◌≡◌, ℕ, List}
 use Rattle.std.specs.Io.Buffered.{reader_remaining}
 use Rattle.std.specs.Io.Iter.{split_byte, split_known_bytes}
 use Rattle.book.specs.Calls.{IsAfterCalls}
-use Rattle.rosterbook.specs.InLines.{AreRequestsChecked, requests_of}
+use Rattle.rosterbook.specs.InLines.{AreRequestsChecked}
+use Rattle.asking.specs.Lines.{requests_of}
 use Rattle.rosterbook.proofs.LinesRead.{AreReadSoFar}
 use Rattle.rosterbook.proofs.check_command.check_lines.Given as goal
 

@@ -1,6 +1,6 @@
 use Rattle.std.proofs.Common.{◌++◌, ◌∙◌, ◌∷◌, [], inl, inr, refl, vec_items}
 use Rattle.book.proofs.CallLemmas.{no_calls, then_calls}
-use Rattle.rosterbook.specs.InLines.{not_empty}
+use Rattle.asking.specs.Lines.{not_empty}
 use Rattle.rosterbook.specs.declared.status.Status.TheVariants.{Done}
 use Rattle.rosterbook.proofs.LinesAnswered.{lines_answered, lines_stopped, none_answered}
 use Rattle.rosterbook.proofs.LinesRead.{all_read, first_read, none_read, none_so_far, one_more}

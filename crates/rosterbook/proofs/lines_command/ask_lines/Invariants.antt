@@ -2,7 +2,8 @@ use Rattle.std.proofs.Common.{◌≡◌, ℕ, List}
 use Rattle.std.specs.Io.Buffered.{reader_remaining}
 use Rattle.std.specs.Io.Iter.{split_byte, split_known_bytes}
 use Rattle.book.specs.Calls.{IsAfterCalls}
-use Rattle.rosterbook.specs.InLines.{AreRequestsAnswered, requests_of}
+use Rattle.rosterbook.specs.InLines.{AreRequestsAnswered}
+use Rattle.asking.specs.Lines.{requests_of}
 use Rattle.rosterbook.proofs.LinesRead.{AreReadSoFar}
 use Rattle.rosterbook.proofs.lines_command.ask_lines.Given as goal
 
