@@ -8,7 +8,8 @@
 `shell.html` has a place for the style, which is made of `style/*.css` in the order of STYLES, and one for the script. The parts of the
 script are modules that say what they import; here they become one module, each behind those that it imports, without its imports. So no
 two parts may have the same name at the top, and none may import itself by a detour. Comments are left out of the page, and blanks that
-mean nothing; `const` is `let` there. The policy allows one script and one style, by their hashes, and nothing else.
+mean nothing; there `const` is `let`, once for declarations that follow each other, `true` is `!0`, and no semicolon stands before a brace or
+at the end of a line where none is needed. The policy allows one script and one style, by their hashes, and nothing else.
 """
 
 import base64
@@ -26,7 +27,10 @@ MOST = 110_000  # bytes of the page
 IMPORT = re.compile(r"^import \{ ([^}]*) \} from '\./(\w+)\.js';$", re.M)
 DECLARED = re.compile(r"^(export )?(async function|function|const|let|class) (.*)$", re.M)
 TEMPLATE = r"`(?:\$\{(?:`[^`]*`|[^`}])*\}|\$(?!\{)|[^`$])*`"  # also one that has others in it
-LITERALS = re.compile(rf"('[^']*'|{TEMPLATE})")
+PATTERN = r"/(?! )(?:\\.|\[(?:\\.|[^\]\\])*\]|[^/\\[])+/[gi]*"  # (a quotient has a blank behind its sign)
+LITERALS = re.compile(rf"('[^']*'|{TEMPLATE}|{PATTERN})")
+TRUTHS = {"true": "!0", "false": "!1"}
+TRUTH = re.compile(r"(?<![\w$.])(?:true|false)(?![\w$:])")
 BRACKETS = re.compile(r"\([^()]*\)|\[[^][]*\]|\{[^{}]*\}|'[^']*'")
 
 POLICY = (
@@ -124,15 +128,34 @@ def squeezed(line):
     parts = LITERALS.split(re.sub(r"^((?:export )?|for \()const ", r"\1let ", line))
     if any(re.search(r"[`'\"/]|([+-]) \1", part.replace(" / ", "")) for part in parts[::2]):
         return line
-    parts[::2] = [re.sub(r" ?([-+*/<>=!&|?{}()[\],;:]+) ?", r"\1", part) for part in parts[::2]]
+    parts[::2] = [re.sub(r" ?([-+*/<>=!&|?{}()[\],;:]+) ?", r"\1", TRUTH.sub(lambda it: TRUTHS[it[0]], part)) for part in parts[::2]]
     return "".join(parts)
+
+
+def is_plain(line):
+    """Whether a line is one declaration by `let`, and no more."""
+    while (plain := BRACKETS.sub("_", LITERALS.sub("_", line))) != line:
+        line = plain
+    return line.startswith("let ") and line.find(";") == len(line) - 1
+
+
+def joined(script):
+    """The script with one `let` for declarations that follow each other, and without semicolons that end a block."""
+    lines = []
+    for line in script.replace(";}", "}").splitlines():
+        if lines and is_plain(line) and is_plain(lines[-1]):
+            lines[-1:] = [lines[-1][:-1] + ",", line]
+        else:
+            lines.append(line)
+    whole = "\n".join(line[4:] if n and lines[n - 1].endswith(",") else line for n, line in enumerate(lines)) + "\n"
+    return re.sub(r";\n(?=(?:let|function|async function|class) )", "\n", whole)
 
 
 def page():
     """The text of the page."""
     style = "".join(lines_of((HERE / "style" / f"{name}.css").read_text(), r"^/\*.*\*/$") for name in STYLES)
     style = re.sub(r" ?([{};,>]) ?|(:) ", r"\1\2", style)
-    script = "".join(lines_of(part.body, r"(^|  )//.*$| /\*.*\*/", squeezed) for part in parts_of_script())
+    script = joined("".join(lines_of(part.body, r"(^|  )//.*$| /\*.*\*/", squeezed) for part in parts_of_script()))
     shell = lines_of((HERE / "shell.html").read_text(), r"^<!--.*-->$")
     made = shell.replace("@STYLE@\n", style).replace("@SCRIPT@\n", script)
     if len(made.encode()) > MOST:

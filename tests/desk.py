@@ -32,7 +32,7 @@ from pathlib import Path
 from browser import PATIENCE, browser, console, lacks
 from exchanges import response
 from office import TOP, Book, build, order, rosterbook
-from server import LOOPBACK, serving
+from server import LOOPBACK, free_port, serving
 
 DESK = TOP / "desk"
 PAGE, POLICY = (TOP / "crates" / "desk" / "src" / f"{name}.rt" for name in ("page", "policy"))
@@ -123,7 +123,7 @@ def try_text(seen):
 def try_refusals(seen):
     text = (TOP / "docs" / "REFUSALS.md").read_text()
     there = re.findall(r"^\| (\d+) \| (.*?) \| (.*?) \|$", text.partition("## On the desk")[2].partition("\n## ")[0], re.M)
-    here = re.findall(r"\b(\d+):\['(.*?)','(.*?)'\],", re.search(r"^let REFUSALS=\{(.*)\};$", literal(PAGE), re.M)[1])
+    here = re.findall(r"\b(\d+):\['(.*?)','(.*?)'\],", re.search(r"^(?:let )?REFUSALS=\{(.*)\}[,;]?$", literal(PAGE), re.M)[1])
     seen.expect("the words of the desk", here, there)
     numbers = {int(number) for number in re.findall(r"^\| (\d+) [A-Z]", text, re.M)}
     seen.expect("each refusal that a server answers has words", {int(it[0]) for it in here}, {it for it in numbers if it < 40} | {90, 91})
@@ -159,6 +159,7 @@ class Relay:
     said: list = field(default_factory=list)  # what is answered to the next commands, which aren't handed on
     held: threading.Event | None = None  # until it is set, no limits are answered
     commands: list = field(default_factory=list)  # those that came
+    paths: list = field(default_factory=list)  # what was asked for, in turn
     listener: socket.socket = field(default_factory=lambda: socket.create_server((LOOPBACK, 0)))
 
     @property
@@ -177,6 +178,7 @@ class Relay:
         with client:
             try:
                 asked = request_from(client)
+                self.paths += [it.decode() for it in asked.split(b" ")[1:2]]
                 is_command = asked.startswith(b"POST /requests ")
                 if is_command:
                     self.commands.append(asked.partition(b"\r\n\r\n")[2].decode())
@@ -753,13 +755,162 @@ def try_seats(seen, visitor):
     seen.expect("the seats", book.seats(), ["B101 C2 -", "B102 - -", "B103 C1 -"])
 
 
+def try_requests(seen, visitor):
+    """How often the server is asked doesn't depend on how many members there are: for a month, for who may fly, and for swaps."""
+    more = "".join(f"hire {seat[0].upper()}{n} {seat}: {seat} {n}\n" for n in range(30, 50) for seat in ("captain", "first-officer"))
+    for lines, captains in ((OFFICE, 3), (OFFICE + more, 23)):
+        book = seen.book(lines + "assign B103 C2\n")
+        with at_desk(seen, visitor, book) as person:
+            person.open("board/2025-06-01/month")
+            lists = ["/json/reports/pairings", "/json/exceedances"]
+            seen.expect("a month, and the page itself", asked_by(person), ["/", *lists, "/json/board/2025-05-31/2025-07-01"])
+            seen.expect("all duties", person.js("return document.querySelectorAll('.row .duty').length"), 4)
+            person.type(person.key.PAGE_DOWN) if person.js("return document.activeElement.closest('#grid')") else person.press("Later")
+            seen.expect("the next month", [person.text("h1"), asked_by(person)], ["July 2025", ["/json/board/2025-06-30/2025-08-01"]])
+            person.relay.held = threading.Event()
+            person.js("location.hash = '#/pairing/B102'")
+            seats = "return [...document.querySelectorAll('.candidate .main')].map(it => it.getAttribute('aria-label').split(', ')[1])"
+            seen.expect("the lists stand", person.sees(f"{captains - 1} of {captains} may", "main") and person.sees(f"{captains - 2} of {captains - 1} may", "main"))
+            allowed = person.js(seats)
+            seen.expect("who may not, and why", "Rest before a report" in person.text("main") and "C1" not in allowed)
+            asked = [it for it in asked_by(person) if "/limits/" not in it]
+            seen.expect("two requests for two seats", asked, ["/json/pairings/B102", "/lines/checks", "/lines/checks"])
+            person.relay.held.set()
+            person.calm()
+            seen.expect("by how much", person.sees("the rest before B102/1 is 9:30, and must be at least 10:00", "main"))
+            seen.expect("the same may, those with the fewest hours first", [sorted(person.js(seats)) == sorted(allowed), allowed[0], person.js(seats)[captains - 2]], [True, "C2", "C2"])
+            asked_by(person)
+            person.go("pairing/B103")
+            asked_by(person)
+            person.press("Swap Bo Lind")
+            seen.expect("one request for all swaps", asked_by(person), ["/lines/checks"])
+            person.press("Release Bo Lind")
+            crews = [it for it in asked_by(person) if it.startswith(("/json/reports/m", "/json/c", "/json/board"))]
+            seen.expect("one for the members", crews, ["/json/reports/members"])
+
+
+COUNT = "/json/count"
+
+
+def asked_by(person):
+    """What the page has asked for since this was looked at last, but for how many requests are kept: that it asks by the clock."""
+    asked, person.relay.paths = person.relay.paths, []
+    return [it for it in asked if it != COUNT]
+
+
+def pause(person, is_paused):
+    """Hides the page, or shows it again: one that nobody sees doesn't look for what other desks do."""
+    person.js("""
+        Object.defineProperty(document, 'hidden', { value: arguments[0], configurable: true });
+        document.dispatchEvent(new Event('visibilitychange', { bubbles: true }));
+    """, is_paused)
+
+
+def elsewhere(seen, person, lines, start=5_000_000):
+    """Another program has the server do these lines."""
+    for number, line in enumerate(lines, start):
+        body = json.dumps({"number": number, **order(line)}).encode()
+        got = person.relay.answer(b"POST /requests HTTP/1.1\r\nHost: localhost\r\nContent-Length: %d\r\n\r\n" % len(body) + body)
+        seen.expect(line, b'"accepted"' in got)
+
+
+def looks(person, times):
+    """Waits until the page has asked so many times how many requests are kept."""
+    before = person.relay.paths.count(COUNT)
+    seen = person.wait(lambda: person.relay.paths.count(COUNT) >= before + times)
+    person.calm()
+    return seen
+
+
+def try_changes(seen, visitor):
+    """What another desk does is seen within seconds, without a key, and leaves alone what somebody is at; what this one does is read once."""
+    book = seen.book(OFFICE)
+    bars = "return document.querySelectorAll('.row[data-crew=\"{}\"] .duty').length"
+    with at_desk(seen, visitor, book, ("net::ERR_",)) as person:
+        person.open("board/2025-06-01/month")
+        asked_by(person)
+        seen.expect("it looks", looks(person, 1))
+        seen.expect("and reads nothing", asked_by(person), [])
+        person.js("document.querySelector('[data-key=\"C1 pairing B101/1\"]').focus()")
+        focus = person.focused()
+        elsewhere(seen, person, ["assign B103 C2", "train G1 16: 12:00-20:00"])
+        seen.expect("the bars of another desk", person.wait(lambda: [person.js(bars.format(crew)) for crew in ("C1", "C2")] == [2, 2]))
+        person.calm()
+        seen.expect("the focus stays", person.wait(lambda: person.focused() == focus))
+        seen.expect("the lists are read once", [it for it in asked_by(person) if "pairings" in it], ["/json/reports/pairings"])
+        person.fill("Filter members", "Roy")
+        elsewhere(seen, person, ["hire C7 captain: Ed Roy"], 5_000_010)
+        seen.expect("a new row of those that are chosen", person.sees("Ed Roy", "#grid") and "3 of 6" in person.text("#shown"))
+        person.type(" x")
+        seen.expect("the filter goes on", person.js("return document.activeElement.value"), "Roy x")
+        person.open("member/C1")
+        visitor.refresh()
+        person.calm()
+        person.press("Add a ground duty")
+        person.fill("Task", "Simul", "details")
+        asked_by(person)
+        elsewhere(seen, person, ["train G2 20: 12:00-20:00"], 5_000_020)
+        person.wait(lambda: "/json/exceedances" in person.relay.paths)
+        person.calm()
+        person.type("ator")
+        form = "return [document.activeElement.value, document.activeElement.closest('details').open]"
+        seen.expect("a form goes on", person.js(form), ["Simulator", True])
+        for name, text in (("Begin", "2025-06-22 0800"), ("End", "1200")):
+            person.fill(name, text, "details")
+        person.press("Add ground duty")
+        seen.expect("both are there once it is sent", person.sees("GC1-0622", ".duties") and "G2" in person.text(".duties"))
+        seen.expect("it is read once", [it for it in asked_by(person) if "pairings" in it][1:], ["/json/reports/pairings"])
+        seen.expect("and not again", [looks(person, 1), asked_by(person)], [True, []])
+        person.press("Add a ground duty")
+        elsewhere(seen, person, ["train G3 24: 12:00-20:00"], 5_000_030)
+        person.wait(lambda: "/json/exceedances" in person.relay.paths)
+        looks(person, 1)
+        seen.expect("a form that is open", [person.js("return document.querySelector('details').open"), "G3" in person.text(".duties")], [True, False])
+        person.press("Add a ground duty")
+        seen.expect("is drawn over once it is closed", person.sees("G3", ".duties"))
+        person.js("document.activeElement.blur()")
+        person.type("?")
+        elsewhere(seen, person, ["train G4 26: 12:00-20:00"], 5_000_040)
+        seen.expect("below the help", person.sees("G4", ".duties"))
+        seen.expect("which stays", [person.text("dialog h2"), person.focused()], ["Keys", "Close"])
+        person.type(person.key.ESCAPE)
+        person.go("board/2025-06-01/month+pairing/B102")
+        person.js("document.querySelector('#panel .main').focus()")
+        focus = person.focused()
+        elsewhere(seen, person, ["train G5 28: 12:00-20:00"], 5_000_050)
+        seen.expect("a bar beside the panel", person.wait(lambda: person.js(bars.format("C1")) == 7))
+        seen.expect("the focus in the panel", person.wait(lambda: person.focused() == focus))
+        pause(person, True)
+        person.calm()
+        person.relay.paths.clear()
+        elsewhere(seen, person, ["train G6 29: 12:00-20:00"], 5_000_060)
+        time.sleep(7)
+        seen.expect("nobody looks", person.relay.paths, [])
+        pause(person, False)
+        seen.expect("until somebody does", person.wait(lambda: person.js(bars.format("C1")) == 8))
+        there, person.relay.server = person.relay.server, free_port()
+        seen.expect("the book doesn't answer", person.sees("The book doesn’t answer.", "#told"))
+        person.relay.server = there
+        elsewhere(seen, person, ["excuse G6"], 5_000_070)
+        seen.expect("until it does", person.wait(lambda: "doesn’t answer" not in person.text("#told")))
+        seen.expect("it is read again", person.wait(lambda: person.js(bars.format("C1")) == 7))
+
+
 def try_two_desks(seen, visitor):
-    """Another desk has changed what this one shows."""
+    """Another desk changes what this one shows, and what a person presses before it is shown."""
     book = seen.book(OFFICE)
     with at_desk(seen, visitor, book) as person, browser() as other_visitor:
         other = Person(other_visitor, person.port)
-        person.open("pairing/B103")
+        person.open("board/2025-06-01/month")
         other.open("pairing/B103")
+        other.press("Assign Bo Lind")
+        bar = "return document.querySelector('.row[data-crew=\"C2\"] .duty')?.getAttribute('aria-label')"
+        seen.expect("the other desk's bar", person.wait(lambda: person.js(bar)), "Bo Lind: B103/1, planned, Thu 12 Jun 14:00 to Thu 12 Jun 21:00")
+        person.go("pairing/B103")
+        person.press("Release Bo Lind")
+        seen.expect("the seat is free", other.sees("Captain free", "main"))
+        other.calm()
+        pause(person, True)
         other.press("Assign Bo Lind")
         person.press("Assign Ada Ray")
         seen.expect("the seat is taken", person.sees("The seat is taken.", "#told"))
@@ -1047,6 +1198,9 @@ def try_inspector(seen, visitor):
         person.fill("members", "all")
         person.press("Member", "thead")
         seen.expect("sorted by member", person.js(first)[:7], "Ada Ray")
+        person.found("return document.querySelector('tbody summary')").click()
+        words = "Flown times of B101/1 are recorded.\nOn record: C1 exceeds 117.13(a), Flight duty period (Table B); F1 exceeds 117.13(a), Flight duty period (Table B)."
+        seen.expect("what is kept under its number", person.sees(words, "tbody details"))
         person.press("B101/1", "main")
         seen.expect("the duty, beside the plan", person.sees("117.13(a) Flight duty period (Table B): Ada Ray (C1)", "#panel") and "+4:30" in person.text("#panel"))
 
@@ -1066,7 +1220,7 @@ def try_paper(seen, visitor):
 
 IN_BROWSER = {
     "first_hour": try_first_hour, "first_month": try_first_month, "foretold": try_foretold, "corrected": try_corrected, "schedule": try_schedule,
-    "names": try_names, "phone": try_phone, "rests": try_rests, "drag": try_drag, "seats": try_seats, "two_desks": try_two_desks,
+    "names": try_names, "phone": try_phone, "rests": try_rests, "drag": try_drag, "seats": try_seats, "requests": try_requests, "two_desks": try_two_desks, "changes": try_changes,
     "lost_answer": try_lost_answer, "numbers": try_numbers, "room": try_room, "markup": try_markup, "clocks": try_clocks, "zones": try_zones, "keys": try_keys, "screens": try_screens,
     "inspector": try_inspector, "paper": try_paper,
 }  # fmt: skip

@@ -1,7 +1,7 @@
 // A command as a person gives it: sent, its answer told in words, and what it changed read again.
 
 import { h } from './dom.js';
-import { nameOf, pairingOf, readAgain } from './known.js';
+import { UNSENT, nameOf, pairingOf, readAgain } from './known.js';
 import { tell } from './messages.js';
 import { phrases } from './phrases.js';
 import { explained, wrongOf } from './refusals.js';
@@ -9,13 +9,12 @@ import { limitName } from './sections.js';
 import { send, sendLeft } from './sending.js';
 
 // Whose rosters and which pairings a command may have changed.
-function touched(command, answer) {
-  const ids = [command.pairing, command.other_pairing].filter(Boolean);
-  const crews = [command.crew, command.other_crew, ...(answer.exceedances ?? []).map(it => it.crew)];
-  crews.push(...ids.flatMap(id => Object.values(pairingOf(id)?.seats ?? {})));
-  return { crews: crews.filter(Boolean), ids };
+function touchedBy({ pairing, other_pairing, crew, other_crew }, answer) {
+  const ids = [pairing, other_pairing];
+  return [...ids, crew, other_crew, ...(answer.exceedances ?? []).map(it => it.crew),
+    ...ids.flatMap(id => Object.values(pairingOf(id)?.seats ?? {}))];
 }
-const recorded = answer => answer.exceedances?.length > 0 &&
+export const recorded = answer => answer.exceedances?.length > 0 &&
   h('p.bad', 'On record: ', answer.exceedances.map(it => `${it.crew} exceeds ${it.section}, ${limitName(it.section)}`).join('; '), '.');
 const tellRefused = async (answer, command) => tell(false, `${phrases(command).refused}:`, await explained(answer, command));
 
@@ -26,7 +25,7 @@ export async function act(command, undo) {
     const back = undo && h('p', h('button', { onclick: e => { e.target.closest('.told').remove(); act(undo); } }, 'Undo'));
     tell(true, phrases(command).words + '.', recorded(answer), back);
   } else if (answer.result !== 'forgotten') await tellRefused(answer, command);
-  await readAgain({ ...touched(command, answer), isGentle: !isDone(answer) });
+  await readAgain({ held: isDone(answer) ? UNSENT : undefined, own: +isDone(answer), touched: touchedBy(command, answer) });
   return isDone(answer);
 }
 const isDone = answer => answer.result === 'accepted';
@@ -37,19 +36,15 @@ export const release = (crew, pairing) => act({ do: 'release', pairing, crew }, 
 
 // Gives the seat of one member to another, in two steps; if the second is refused, the first is undone.
 export async function replace(holder, crew, pairing) {
-  const changed = { crews: [holder, crew], ids: [pairing], isGentle: false }, command = { do: 'assign', pairing, crew };
-  const first = { do: 'release', pairing, crew: holder }, answer = await send(first);
-  if (!isDone(answer)) {
-    await tellRefused(answer, first);
-    return readAgain(changed);
-  }
-  const second = await send(command), { words, refused } = phrases(command), name = `${nameOf(holder)} (${holder})`;
-  if (isDone(second)) tell(true, `${words}, in place of ${name}.`);
+  const first = { do: 'release', pairing, crew: holder }, command = { do: 'assign', pairing, crew }, answer = await send(first);
+  const second = isDone(answer) && await send(command), { words, refused } = phrases(command), name = `${nameOf(holder)} (${holder})`;
+  if (!second) await tellRefused(answer, first);
+  else if (isDone(second)) tell(true, `${words}, in place of ${name}.`);
   else {
     const back = await send({ do: 'assign', pairing, crew: holder });
     tell(false, `${refused}:`, await explained(second, command), h('p', isDone(back) ? `${name} has the seat as before.` : 'The seat is free now.'));
   }
-  return readAgain(changed);
+  return readAgain({ held: UNSENT });
 }
 
 // Commands of an earlier visit: nobody waits for them, so their answers are told by themselves.

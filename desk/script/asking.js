@@ -7,6 +7,7 @@ export const unlessLost = why => { if (!(why instanceof NoAnswer)) throw why; };
 const PATIENCE = 60_000, PATIENCE_OF_IMPORT = 600_000;  // milliseconds
 const waiting = [[], [], []];
 let isUnderWay = false;
+export const howMany = () => waiting.flat().length + isUnderWay;
 
 function inTurn(rank, signal, job) {
   return new Promise((done, failed) => {
@@ -15,7 +16,7 @@ function inTurn(rank, signal, job) {
   });
 }
 async function next() {
-  const count = waiting.flat().length + isUnderWay;
+  const count = howMany();
   document.documentElement.dataset.asking = count;  // (for tests)
   if (isUnderWay || !count) return;
   const it = waiting.find(list => list.length).shift();

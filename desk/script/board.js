@@ -1,12 +1,13 @@
 // The board: a row for each member over a week, two weeks or a month, and below it the pairings with a free seat.
 
+import { unlessLost } from './asking.js';
 import { addDays, clock, clockName, date, dayOf, local, monthName, weekday, weekdayName } from './clock.js';
 import { h } from './dom.js';
 import { boardKeys, setTabStop } from './gridkeys.js';
 import { now } from './instants.js';
-import { known } from './known.js';
+import { known, readBoard } from './known.js';
 import { link } from './pieces.js';
-import { drawAll, drawRow, filterRows, memberRow, openLanes, readRosters } from './rows.js';
+import { drawAll, drawRow, filterRows, memberRow, openLanes } from './rows.js';
 import { ZOOMS, chooseView, goTo, place, step, view, zoomTo } from './view.js';
 
 const QUARTERS = [360, 720, 1080];  // minutes of a day, where a week has lines
@@ -75,6 +76,7 @@ export const todayAt = () => now() > view.from && now() < view.to ? place(dayOf(
 
 export function boardScreen([day, zoom], stop) {
   chooseView(day, zoom);
+  view.rows.clear();
   const title = titleOf(), days = h('div.track', { role: 'columnheader', label: title }, view.days.map(dayHead));
   const head = h('div.days', { role: 'row' }, h('div', { role: 'columnheader', class: 'small soft' }, h('span', { id: 'shown' }), h('br'),
     h('div.line.end', clock.base === 'UTC' ? 'UTC' : `${clock.base} time`, h('span', 'flight'))), days);
@@ -87,7 +89,7 @@ export function boardScreen([day, zoom], stop) {
     filterRows();
     watch(grid, days, stop);
     if (known.members.length) sheet.append(openLanes());
-    readRosters(stop);
+    readBoard(view, stop).then(() => { if (!stop.aborted) drawAll(); }).catch(unlessLost);
     setTabStop();
   });
   return [controls(title), h('p.printonly', `Roster, ${title}, ${clockName()}`), grid,

@@ -32,8 +32,7 @@ const planOf = p => ({
 
 export function byHand() {
   const id = h('input', { required: true, maxlength: 12, autocomplete: 'off' }), periods = repeated('period', periodFields);
-  async function add(e) {
-    e.preventDefault();
+  async function add() {
     const times = periods.list.flatMap(p => [p.report, p.release, ...p.segments.list.flatMap(s => [s.out, s.in])]);
     if (!areRead(times)) return tell(false, UNREAD);
     const pairing = upper(id);

@@ -10,7 +10,7 @@ import { dutyText, link } from './pieces.js';
 import { reading } from './reading.js';
 import { wrongOf } from './refusals.js';
 import { limitName, limitText, restText } from './sections.js';
-import { check } from './sending.js';
+import { checks } from './sending.js';
 
 const FILTERED = 8;  // from so many members on there is a filter
 
@@ -24,39 +24,44 @@ function nearness(limits) {
   return { ok: true, month: of('117.23(b)(1)') ?? 0, text };
 }
 const beyond = limits => ({ ok: false, tag: limits.map(it => it.section).join(' '), text: limits.map(limitText).join('; ') });
-const judged = limits => limits.some(it => it.exceeds) ? beyond(limits.filter(it => it.exceeds)) : nearness(limits);
 
-// The verdict on a member: `ok`, a tag and a text; `month`, the flight time in 28 days, if it is allowed.
-async function verdictFree(crew, pairing, signal) {
-  const answer = await check({ do: 'assign', pairing, crew }, signal);
-  if (answer.refusal === 11) return overlap(await clashWith(crew, pairing, signal));
-  if (answer.result !== 'accepted' && answer.refusal !== 12) return { ok: false, tag: 'refused', text: wrongOf(answer) };
-  const found = judged(await reading.limits(crew, pairing, 0, signal));
-  if (answer.result === 'accepted' || !found.ok) return found;
-  return { ok: false, tag: answer.limits[0].section, text: answer.limits.map(it => limitName(it.section)).join('; ') };
+// The verdict on a member by what the book would answer: `ok`, a tag and a text.
+function verdictOf(answer) {
+  if (answer.result === 'accepted') return { ok: true, month: 0, text: '…' };
+  if (answer.refusal === 11) return overlap();
+  if (answer.refusal !== 12) return { ok: false, tag: 'refused', text: wrongOf(answer) };
+  const sections = answer.limits.map(it => it.section);
+  return { ok: false, tag: sections.join(' '), text: sections.map(limitName).join('; ') };
 }
-// While somebody has the seat the book would only say that it is taken: so overlaps and limits are looked at instead.
-async function verdictInPlace(crew, pairing, signal) {
-  const clash = await clashWith(crew, pairing, signal);
-  return clash ? overlap(clash) : judged(await reading.limits(crew, pairing, 0, signal));
+// The figures of it: which duty overlaps, by how much it would break limits; `month`, the flight time in 28 days, if it is allowed. While
+// somebody has the seat there is no verdict, as the book would only say that it is taken: so overlaps and limits are looked at instead.
+async function figured({ ok, tag }, crew, pairing, signal) {
+  const isTaken = ok == null, clash = (isTaken || tag === 'overlap') && await clashWith(crew, pairing, signal);
+  if (clash || tag === 'overlap') return overlap(clash);
+  if (tag === 'refused') return null;
+  const limits = await reading.limits(crew, pairing, 1, signal);
+  const broken = limits.filter(it => it.exceeds && (isTaken || tag?.includes(it.section)));
+  return ok || isTaken && !broken.length ? nearness(limits) : broken.length && beyond(broken);
 }
 
-// A list of all, which fills as they are looked at. `holder` is who has the seat now, and would be replaced.
+// A list of all: first the verdicts, then the figures. `holder` is who has the seat now, and would be replaced.
 export function candidates(pairing, seat, signal, holder) {
-  const people = known.members.filter(it => it.seat === seat && it.crew !== holder), found = new Map();
+  const people = known.members.filter(it => it.seat === seat && it.crew !== holder).map(it => ({ ...it }));
   const yes = h('ul.plain'), no = h('ul.plain'), summary = h('summary');
   const others = h('details', { open: true }, summary, no), progress = h('span.soft.small.num', { role: 'status' });
   const filter = h('input', { type: 'search', placeholder: 'Filter by name or id', label: `Filter the ${seat}s`, oninput: draw });
   const title = holder ? `Who may replace ${memberOf(holder)?.name ?? holder}?` : `Who may fly as ${seat}?`;
 
   function draw() {
-    const word = filter.value.toLowerCase(), all = [...found.values()].filter(it => `${it.crew} ${it.name}`.toLowerCase().includes(word));
-    const allowed = all.filter(it => it.ok).sort((a, b) => a.month - b.month || (a.crew < b.crew ? -1 : 1)), refused = all.filter(it => !it.ok);
-    fill(yes, allowed.map(row));
-    fill(no, refused.map(row));
+    const word = filter.value.toLowerCase(), found = people.filter(it => it.row), focus = document.activeElement;
+    const all = found.filter(it => `${it.crew} ${it.name}`.toLowerCase().includes(word)), refused = all.filter(it => !it.ok);
+    const allowed = all.filter(it => it.ok).sort((a, b) => a.month - b.month || (a.crew < b.crew ? -1 : 1));
+    fill(yes, allowed.map(it => it.row));
+    fill(no, refused.map(it => it.row));
+    if (yes.contains(focus)) focus.focus({ preventScroll: true });
     others.hidden = !refused.length;
     summary.textContent = `${plural(refused.length, 'member')} may not`;
-    progress.textContent = found.size < people.length ? `${found.size} of ${people.length} looked at` : `${allowed.length} of ${all.length} may`;
+    progress.textContent = found.length < people.length ? `${found.length} of ${people.length} looked at` : `${allowed.length} of ${all.length} may`;
     if (!people.length) fill(yes, h('li.soft', holder ? `The book has no other ${seat}.` : `The book has no ${seat} yet: add one under `,
       !holder && link('members', 'Members')));
   }
@@ -69,18 +74,30 @@ export function candidates(pairing, seat, signal, holder) {
     return h('li.candidate',
       h('span', link('member/' + it.crew, h('bdi', it.name)), h('span.soft.small', ` ${it.crew} · ${it.base}`)),
       it.ok ? h('button.main', { key: `assign ${it.crew}`, label, onclick: press }, verb) : h('span.tag.red', it.tag),
-      h('p', { class: it.ok ? 'small soft num' : 'small num' }, it.text));
+      h('p', { class: it.ok ? 'small soft num' : 'small num' }));
+  }
+  // What is known of a member now.
+  function take(it, verdict) {
+    Object.assign(it, verdict);
+    it.row ??= row(it);
+    it.row.lastChild.textContent = it.text;
+    setMark(pairing, it.crew, it);
+  }
+  async function lookAt(list) {
+    for (const it of list) {
+      if (signal.aborted) return;
+      take(it, await figured(it, it.crew, pairing, signal));
+      if (holder) draw();
+    }
+    draw();
   }
   async function look() {
-    for (const it of people) {
-      if (signal.aborted) return;
-      const verdict = await (holder ? verdictInPlace : verdictFree)(it.crew, pairing, signal);
-      found.set(it.crew, { ...it, ...verdict });
-      setMark(pairing, it.crew, verdict);
-      draw();
-    }
+    if (holder) return lookAt(people);
+    (await checks(people.map(({ crew }) => ({ do: 'assign', pairing, crew })), signal)).forEach((answer, n) => take(people[n], verdictOf(answer)));
+    draw();
+    for (const ok of [true, false]) await lookAt(people.filter(it => it.ok === ok));
   }
-  look().catch(unlessLost);
+  if (people.length) look().catch(unlessLost);
   draw();
   return h('section.card', { label: title }, h('div.line.end', h('h3', title), progress), people.length > FILTERED && filter, yes, others);
 }

@@ -45,8 +45,8 @@ function begin() {
 // (The click that ends a drag opens nothing.)
 function swallowClick() {
   const swallow = e => { e.stopPropagation(); e.preventDefault(); };
-  document.addEventListener('click', swallow, { capture: true, once: true });
-  setTimeout(() => document.removeEventListener('click', swallow, true), 50);
+  addEventListener('click', swallow, { capture: true, once: true });
+  setTimeout(() => removeEventListener('click', swallow, true), 50);
 }
 function finish(isDropped) {
   const { pairing } = drag, crew = drag.row?.dataset.crew;
@@ -62,7 +62,7 @@ function finish(isDropped) {
 export function startDrag(e, pairing) {
   if (e.button || e.pointerType === 'touch') return;
   const { clientX, clientY } = e, heard = new AbortController();
-  const listen = (type, hear) => document.addEventListener(type, hear, { capture: true, signal: heard.signal });
+  const listen = (type, hear) => addEventListener(type, hear, { capture: true, signal: heard.signal });
   const end = isDropped => { heard.abort(); if (isDragged()) finish(isDropped); };
   drag.pairing = pairing;
   listen('pointermove', ev => {

@@ -1,10 +1,12 @@
 // The exceedances on record, for an inspector: by member, section and month, and by how much; sorted; printed with repeated headings.
 
+import { recorded } from './acting.js';
 import { unlessLost } from './asking.js';
 import { clockName, dated, monthName, monthOf } from './clock.js';
 import { all, fill, h } from './dom.js';
 import { hm, now } from './instants.js';
 import { known, nameOf, pairingOf, rosterOf } from './known.js';
+import { phrases } from './phrases.js';
 import { empty, memberLink, select } from './pieces.js';
 import { reading } from './reading.js';
 import { SECTIONS, excess, isRest, limitName, meets, nearestRest } from './sections.js';
@@ -36,6 +38,12 @@ async function amountOf(it, stop) {
   return meets(limit, duty) ? excess(limit) : `limit ${hm(limit.limit)}`;
 }
 
+// A number, and once it is pressed what is kept under it.
+function entry({ number, part }) {
+  const box = h('div');
+  const read = ({ command, reply }) => fill(box, phrases(command).words + '.', recorded(reply));
+  return h('details', { ontoggle: () => reading.request(number, part).then(read).catch(unlessLost) }, h('summary', number), box);
+}
 function exceedanceRow(it, amount) {
   const duty = standing(it), entered = enteredAt(it.number), much = h('td.num', { column: 'By how much' });
   const name = it.pairing ? h('a', { href: `#/exceedances+pairing/${it.pairing}` }, it.name)
@@ -45,7 +53,7 @@ function exceedanceRow(it, amount) {
   return h('tr', h('td', memberLink(it.crew)), h('td', { column: 'Limit' }, h('span', h('b', it.section), ` ${limitName(it.section)}`)), much,
     h('td', { column: 'Duty' }, name),
     cell('Report', duty && dated(duty.begin)), cell('Times now', duty && `FDP ${hm(duty.fdp)}, flight ${hm(duty.flight)}`),
-    cell('Entry no.', h('span', it.number, entered && h('span.soft.small.below', `entered ${dated(entered)}`))));
+    cell('Entry no.', h('span', entry(it), entered && h('span.soft.small.below', `entered ${dated(entered)}`))));
 }
 
 // A head of the table by which its rows are sorted.

@@ -1,7 +1,7 @@
 // The form for flown times of a period. It begins with the plan, or with the times that are corrected.
 
 import { h } from './dom.js';
-import { heads } from './pieces.js';
+import { cellsOf, table } from './pieces.js';
 import { timeField } from './timefield.js';
 import { timesForm } from './timesform.js';
 
@@ -16,16 +16,15 @@ function fieldsOf(period) {
 }
 
 export function flownForm(it, period) {
-  const { report, segments, release } = fieldsOf(period), row = (...cells) => h('tr', cells.map(cell => h('td', cell)));
-  const rows = period.plan.segments.map((s, n) => row([s.flight, h('span.soft.below', `${s.from}–${s.to}`)], segments[n].out, segments[n].in));
+  const { report, segments, release } = fieldsOf(period);
+  const rows = period.plan.segments.map((s, n) => cellsOf([s.flight, h('span.soft.below', `${s.from}–${s.to}`)], segments[n].out, segments[n].in));
   const warning = !it.isFlown && ' Once a period is flown, the pairing can’t be released, swapped or cancelled any more.';
   const form = timesForm('form.flown-form.card', {
     head: () => ({ do: 'actual', pairing: it.pairing, period: period.period }), report, release, segments,
     verb: 'Record flown times', isCorrection: period.flown,
   }, [
     h('p.small.soft', h('b.utc', 'UTC'), '. Type 1105, +35 for minutes after the plan, or 11 0105 for the 11th.', warning),
-    h('table.small.num', h('caption.sr', 'Flown times'), heads(['Segment', 'Out', 'In']),
-      h('tbody', row('Report', report, ''), rows, row('Release', '', release))),
+    table('.small.num', 'Flown times', ['Segment', 'Out', 'In'], cellsOf('Report', report, ''), rows, cellsOf('Release', '', release)),
   ], h('button', { type: 'button', onclick: () => form.remove() }, 'Close'));
   return form;
 }

@@ -4,12 +4,12 @@ import { byHand } from './byhand.js';
 import { when } from './clock.js';
 import { fill, h } from './dom.js';
 import { plural } from './instants.js';
-import { known, pairingOf, readLists } from './known.js';
+import { pairingOf, readAgain } from './known.js';
 import { tell } from './messages.js';
-import { heads } from './pieces.js';
+import { table } from './pieces.js';
 import { explained, wrongOf } from './refusals.js';
 import { HEADER, commandOf, faultOf, readSchedule, sheetsOf } from './schedule.js';
-import { check, sendSchedule } from './sending.js';
+import { checks, sendSchedule } from './sending.js';
 
 const PAIRINGS_SHOWN = 2000, FAULTS_SHOWN = 20;  // rows
 const OF_A_PAIRING = [16, 17, 19];  // refusals
@@ -20,7 +20,7 @@ const recordName = record => `Record ${record.line} (${record[0]})`;
 async function whyNot(record, pairing) {
   const fault = faultOf(record);
   if (fault) return fault;
-  const answer = await check(commandOf(pairing));
+  const [answer] = await checks([commandOf(pairing)]);
   return OF_A_PAIRING.includes(answer.refusal) ? `${wrongOf(answer)} Period ${answer.period}`
     : 'its period, report or release doesn’t go with those of the records around it';
 }
@@ -60,8 +60,7 @@ function preview({ pairings, faults }) {
       done += part.filter((it, n) => answered(it, answer.parts[n])).length;
     }
     if (done) tell(true, `${plural(done, 'pairing')} imported.`);
-    known.details.clear();
-    await readLists();
+    await readAgain();
   }
   const row = it => h('tr', h('td', it.id), h('td.num', { column: 'Report' }, when(it.begin)),
     h('td.num', { column: 'Release' }, when(it.end)),
@@ -72,8 +71,8 @@ function preview({ pairings, faults }) {
       pairings.some(it => pairingOf(it.id)) && h('label.small', skip, ' leave out those that the book has already')),
     faults.length > 0 && h('div.note.bad', { role: 'alert' }, h('b', `${plural(faults.length, 'record')} can’t be read`),
       faults.slice(0, FAULTS_SHOWN).map(([record, text]) => h('p', `${recordName(record)}: ${text}.`))),
-    h('div.scroll.card.flat.tall', h('table.cards', h('caption.sr', 'The schedule'),
-      heads(['Pairing', 'Report', 'Release', 'Periods', 'Route', 'State']), h('tbody', pairings.slice(0, PAIRINGS_SHOWN).map(row)))),
+    h('div.scroll.card.flat.tall', table('.cards', 'The schedule', ['Pairing', 'Report', 'Release', 'Periods', 'Route', 'State'],
+      pairings.slice(0, PAIRINGS_SHOWN).map(row))),
   ];
 }
 const unread = text => h('div.note.bad', { role: 'alert' }, h('b', 'This is no schedule. '),

@@ -39,7 +39,7 @@ function press(key, nextClock) {
   return true;
 }
 export function listenToKeys(nextClock) {
-  document.addEventListener('keydown', e => {
+  addEventListener('keydown', e => {
     if (e.ctrlKey || e.metaKey || e.altKey || document.querySelector('dialog[open]')) return;
     if (e.key === 'Escape' && !$('panel').hidden) return leavePanel();
     if (e.target.matches('input, select, textarea')) return;

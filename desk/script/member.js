@@ -9,7 +9,7 @@ import { kept } from './kept.js';
 import { exceededBy, memberOf, rosterOf } from './known.js';
 import { limitsOf } from './limits.js';
 import { groundForm, outsideForm } from './otherduty.js';
-import { empty, heads, link, pending, routeOf, tag } from './pieces.js';
+import { empty, link, pending, routeOf, table, tag } from './pieces.js';
 import { inWords } from './refusals.js';
 
 const LONG_REST = 99 * 60;  // is no longer told
@@ -33,8 +33,8 @@ function dutyRow(duty, duties) {
 function monthTable(name, month, duties) {
   const list = duties.filter(it => it.end > month && it.begin < addMonths(month, 1));
   if (!list.length) return empty(`No duty in ${monthName(month)}.`);
-  return h('table.cards.duties', h('caption.sr', `Roster of ${name}, ${monthName(month)}`),
-    heads(['Day', 'Duty', 'Times', 'FDP', 'Flight', 'Rest before', 'Limits']), h('tbody', list.map(it => dutyRow(it, duties))));
+  return table('.cards.duties', `Roster of ${name}, ${monthName(month)}`, ['Day', 'Duty', 'Times', 'FDP', 'Flight', 'Rest before', 'Limits'],
+    list.map(it => dutyRow(it, duties)));
 }
 
 const months = new Map();  // which one is shown of a member

@@ -4,7 +4,7 @@ import { act } from './acting.js';
 import { $, h } from './dom.js';
 import { known } from './known.js';
 import { tell } from './messages.js';
-import { empty, heads, link, select, upper } from './pieces.js';
+import { empty, link, select, table, upper } from './pieces.js';
 import { RULES, shownAt17, zoneOf } from './zones.js';
 
 const OTHER = '?', RULE_EXAMPLE = 'CET-1CEST,M3.5.0,M10.5.0/3';
@@ -14,8 +14,7 @@ const textField = most => h('input', { required: true, maxlength: most, spellche
 function memberForm() {
   const id = textField(12), name = textField(60), seat = select([['captain', 'captain'],
     ['first officer', 'first officer']]), base = select(known.bases.map(it => [it.base, it.base]), 'HOME');
-  function add(e) {
-    e.preventDefault();
+  function add() {
     const command = { do: 'add-crew', crew: upper(id), seat: seat.value, name: name.value, ...(base.value === 'HOME' ? {} : { base: base.value }) };
     act(command).then(isDone => isDone && $('main').querySelector('form input')?.focus());
   }
@@ -35,8 +34,7 @@ function baseForm() {
     typed.hidden = rule.disabled = !isOther();
     hint.textContent = zone ? `Check it: ${clocks(zone)}.` : isOther() && rule.value ? 'not a rule yet' : '';
   }
-  function add(e) {
-    e.preventDefault();
+  function add() {
     if (!zoneOf(chosen())) return tell(false, 'This is no POSIX rule.', h('p', `Take one such as ${RULE_EXAMPLE}.`));
     act({ do: 'add-base', base: upper(id), zone: chosen() });
   }
@@ -50,7 +48,7 @@ function baseRow({ base, zone }) {
   return h('tr', h('td', base), h('td', h('code', zone), read && h('span.soft.small.below', clocks(read))));
 }
 const memberLine = it => h('tr', h('td', link('member/' + it.crew, it.crew)), h('td', h('bdi', it.name)), h('td', it.seat), h('td', it.base));
-const list = (name, columns, rows) => h('div.scroll.card.flat', h('table', h('caption.sr', name), heads(columns), h('tbody', rows)));
+const list = (...parts) => h('div.scroll.card.flat', table('', ...parts));
 
 export function membersScreen() {
   const members = list('Members', ['Id', 'Name', 'Seat', 'Base'], known.members.map(memberLine));

@@ -1,6 +1,5 @@
-// Messages in the corner: what was done, what was refused, and that the book doesn't answer.
+// Messages in the corner: what was done, and what was refused.
 
-import { line, unlessLost } from './asking.js';
 import { $, all, h } from './dom.js';
 
 const MOST = 4, READABLE = 12_000;  // messages at once; milliseconds for one of what was done
@@ -12,15 +11,4 @@ export function tell(isGood, title, ...parts) {
   $('told').append(box);
   for (const old of all('.told:not(#lost)').slice(0, -MOST)) old.remove();
   if (isGood) setTimeout(() => box.remove(), READABLE);
-}
-
-// While the book doesn't answer, it is asked every two seconds; `again` is called once it does.
-export function watchLine(askAnything, again) {
-  let timer = 0;
-  line.hear = isLost => {
-    $('lost').hidden = !isLost;
-    clearInterval(timer);
-    if (isLost) timer = setInterval(() => askAnything().catch(unlessLost), 2000);
-    else again();
-  };
 }

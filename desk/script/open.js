@@ -5,7 +5,7 @@ import { byHand } from './byhand.js';
 import { clockName, when } from './clock.js';
 import { h } from './dom.js';
 import { SEATS, openPairings } from './known.js';
-import { empty, heads, memberLink, seatName } from './pieces.js';
+import { empty, memberLink, seatName, table } from './pieces.js';
 
 function openRow(it) {
   const to = `#/open+pairing/${it.pairing}`, isShown = address().panel?.[1] === it.pairing;
@@ -17,7 +17,6 @@ function openRow(it) {
 export function openScreen() {
   const list = openPairings();
   return [h('div.line', h('h1', { tabindex: -1 }, 'Open pairings'), h('span.soft', `${list.length} with a free seat · ${clockName()}`)), byHand(),
-    list.length ? h('div.scroll.card.flat', h('table.cards', h('caption.sr', 'Open pairings'),
-      heads(['Pairing', 'Report', 'Release', 'Captain', 'First officer', 'Who may fly it']),
-      h('tbody', list.map(openRow)))) : empty('No pairing has a free seat.')];
+    list.length ? h('div.scroll.card.flat', table('.cards', 'Open pairings',
+      ['Pairing', 'Report', 'Release', 'Captain', 'First officer', 'Who may fly it'], list.map(openRow))) : empty('No pairing has a free seat.')];
 }

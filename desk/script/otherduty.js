@@ -8,7 +8,7 @@ import { fill, h } from './dom.js';
 import { hm, iso } from './instants.js';
 import { exceededBy, rosterOf } from './known.js';
 import { tell } from './messages.js';
-import { heads, memberLink, pending, repeated, twice } from './pieces.js';
+import { cellsOf, memberLink, pending, repeated, table, twice } from './pieces.js';
 import { limitName } from './sections.js';
 import { UNREAD, areRead, timeField } from './timefield.js';
 import { timesForm } from './timesform.js';
@@ -26,8 +26,7 @@ export function groundForm(crew) {
   const id = idField(), task = h('input', { maxlength: 60, required: true, list: 'tasks' });
   const begin = timeField('Begin', { changed: () => { suggest(id, 'G', crew, begin.at); end.read(); } });
   const end = timeField('End', { near: () => begin.at == null ? null : begin.at + WHOLE_DAY });
-  function add(e) {
-    e.preventDefault();
+  function add() {
     if (!areRead([begin, end])) return tell(false, UNREAD);
     act({ do: 'add-ground', ground: id.value, crew, begin: iso(begin.at), end: iso(end.at), task: task.value },
       { do: 'cancel-ground', ground: id.value, crew });
@@ -57,9 +56,8 @@ function cancellingOf({ id, crew, begin, end, task }) {
   const cancel = () => act({ do: 'cancel-ground', ground: id, crew }, add).then(isDone => isDone && closePanel());
   return h('div', twice('Cancel this duty', `Cancel ${id}?`, cancel));
 }
-const segmentTable = duty => h('table.small.num', h('caption.sr', `Segments of ${duty.id}`), heads(['Segment', 'Out', 'In', 'Block']),
-  h('tbody', duty.segments.map((s, n) => h('tr', [n + 1, until(duty.begin, s.out), until(duty.begin, s.in),
-    hm(s.in - s.out)].map(cell => h('td', cell))))));
+const segmentTable = duty => table('.small.num', `Segments of ${duty.id}`, ['Segment', 'Out', 'In', 'Block'],
+  duty.segments.map((s, n) => cellsOf(n + 1, until(duty.begin, s.out), until(duty.begin, s.in), hm(s.in - s.out))));
 
 function partsOf(duty) {
   const isGround = duty.kind === 'ground', sections = exceededBy(duty);

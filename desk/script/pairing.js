@@ -10,7 +10,7 @@ import { flownForm } from './flown.js';
 import { hm, signed } from './instants.js';
 import { SEATS, detailOf, exceededBy, freeSeats, nameOf, pairingOf } from './known.js';
 import { startMarks } from './marks.js';
-import { heads, memberLink, pending, routeOf, seatName, tag, twice } from './pieces.js';
+import { cellsOf, memberLink, pending, routeOf, seatName, table, tag, twice } from './pieces.js';
 import { inWords } from './refusals.js';
 import { limitName } from './sections.js';
 import { swaps } from './swaps.js';
@@ -23,12 +23,11 @@ function periodTable(it, period) {
   const row = (segment, n) => {
     const { out, in: end } = now.segments[n], cells = [segment.flight, segment.from, held(until(now.report, out), out, segment.out), segment.to,
       held(until(now.report, end), end, segment.in), hm(end - out)];
-    return h('tr', cells.map(cell => h('td', cell)));
+    return cellsOf(...cells);
   };
   const edge = (name, m, planned) => h('tr', h('td.soft', { colspan: 2 }, name), h('td', { colspan: 4 }, held(when(m), m, planned)));
-  return h('div.scroll', h('table.segments.num.small', h('caption.sr', `Period ${period.period} of ${it.pairing}`),
-    heads(['Flight', 'From', 'Out', 'To', 'In', 'Block']),
-    h('tbody', edge('Report', now.report, plan.report), plan.segments.map(row), edge('Release', now.release, plan.release))));
+  return h('div.scroll', table('.segments.num.small', `Period ${period.period} of ${it.pairing}`,
+    ['Flight', 'From', 'Out', 'To', 'In', 'Block'], edge('Report', now.report, plan.report), plan.segments.map(row), edge('Release', now.release, plan.release)));
 }
 
 function recordedOf(it, period) {
@@ -72,7 +71,7 @@ function cancelling(it) {
 }
 
 function parts(it, stop, heading) {
-  const extra = h('div.stack');
+  const extra = h('div.stack.extra');
   let inner = new AbortController();
   const open = make => {
     inner.abort();

@@ -11,7 +11,10 @@ export const dutyText = it => it.kind === 'outside' ? `flies for another airline
   : it.kind === 'ground' ? `has ${it.task} (${it.id})` : `has ${it.name}`;
 export const routeOf = plans => plans.flatMap((p, n) => p.segments.flatMap((s, k) => n || k ? [s.to] : [s.from, s.to])).join('–');
 export const seatName = seat => seat === 'captain' ? 'Captain' : 'First officer';
-export const heads = names => h('thead', h('tr', names.map(name => h('th', { scope: 'col' }, name))));
+export const cellsOf = (...cells) => h('tr', cells.map(cell => h('td', cell)));
+// A table, by its classes, what it has, the names of its columns, and its rows.
+export const table = (css, title, names, ...rows) => h('table' + css, h('caption.sr', title),
+  h('thead', h('tr', names.map(name => h('th', { scope: 'col' }, name)))), h('tbody', rows));
 // What is in a field of an id, a flight or an airport: all have capital letters.
 export const upper = field => field.value.trim().toUpperCase();
 export const pending = () => h('p.soft', 'Reading…');

@@ -1,7 +1,7 @@
 // The reports of the book as values. Only this part knows in which paths and in which JSON the server gives them.
 
 import { ask } from './asking.js';
-import { at } from './instants.js';
+import { at, iso } from './instants.js';
 
 async function report(path, rank, signal) {
   const { status, text } = await ask('/json' + path, { rank, signal });
@@ -31,17 +31,25 @@ const dutyName = it => it.kind === 'pairing' ? `${it.pairing}/${it.period}` : it
 const named = it => ({ kind: it.kind, id: idOf(it), name: dutyName(it), key: `${it.kind} ${dutyName(it)}` });
 function dutyOf(crew, it) {
   const times = it.kind === 'pairing' ? periodOf(it) : { fdp: it.fdp, flight: it.flight, segments: it.segments?.map(segmentOf) };
-  return { ...times, ...named(it), crew, task: it.task, begin: at(it.begin), end: at(it.end) };
+  return { ...times, ...named(it), crew, task: it.task, begin: at(it.begin), end: at(it.end), exceeds: [...new Set(it.exceeds)] };
 }
+// The duties of a member in the order of time.
+const dutiesOf = ({ crew, duties }) => duties.map(it => dutyOf(crew, it)).sort((a, b) => a.begin - b.begin || a.end - b.end);
 
 export const reading = {
+  // How many requests the book keeps: it changes with each command that is done.
+  async count(rank) { return (await report('/count', rank)).count; },
   async members(rank) { return report('/reports/members', rank); },
   async pairings(rank) { return (await report('/reports/pairings', rank)).pairings.map(readPairing); },
   async pairing(id, rank, signal) { return readPairing(await report('/pairings/' + id, rank, signal)); },
-  async roster(crew, rank, signal) {
-    const duties = (await report('/crew/' + crew, rank, signal)).duties.map(it => dutyOf(crew, it));
-    return duties.sort((a, b) => a.begin - b.begin || a.end - b.end);
+  async roster(crew, rank, signal) { return dutiesOf(await report('/crew/' + crew, rank, signal)); },
+  // All bases and members, and what each does in some days, of which each duty says what it exceeds.
+  async board({ from, to }, rank, signal) {
+    const day = m => iso(m).slice(0, 10), { bases, members } = await report(`/board/${day(from)}/${day(to - 1)}`, rank, signal);
+    return { bases, members, board: { from, to, duties: new Map(members.map(it => [it.crew, dutiesOf(it)])) } };
   },
+  // The command that a number is kept under, and its reply; of an import, those of a part.
+  async request(number, part) { return (await report('/requests/' + number)).parts.find(it => it.part === part); },
   async exceedances(rank) {
     return (await report('/exceedances', rank)).exceedances.map(it => ({ ...it, ...named(it) }));
   },

@@ -2,12 +2,11 @@
 
 import { address, dutyPanel } from './address.js';
 import { bar, labels, lanesOf, nextIn } from './bars.js';
-import { unlessLost } from './asking.js';
 import { when } from './clock.js';
 import { $, all, fill, h, keyed } from './dom.js';
 import { startDrag } from './drag.js';
 import { hm, plural, sum } from './instants.js';
-import { exceededBy, freeSeats, known, nameOf, openPairings, rosterOf } from './known.js';
+import { freeSeats, known, nameOf, openPairings } from './known.js';
 import { marks } from './marks.js';
 import { link } from './pieces.js';
 import { isShown, view } from './view.js';
@@ -28,10 +27,11 @@ function refocus(part) {
 export function memberRow(it) {
   const track = h('div.track', { role: 'gridcell' }), hours = h('span.num'), mark = h('span.mark', { 'aria-hidden': 'true' });
   const short = `${it.crew} ${it.seat === 'captain' ? 'CPT' : 'FO'}${it.base === 'HOME' ? '' : ' ' + it.base}`;
-  const who = h('a.who', { role: 'rowheader', href: '#/member/' + it.crew, tabindex: -1, key: `who ${it.crew}`, title: it.name },
+  const who = h('a.who', { role: 'rowheader', href: '#/member/' + it.crew, tabindex: -1, key: `who ${it.crew}` },
     mark, h('b', h('bdi', it.name)), h('small', h('span', short), hours));
   const row = h('div.row', { role: 'row', 'data-crew': it.crew }, who, track);
   view.rows.set(it.crew, { row, who, track, hours, mark, it, isNear: false, isDrawn: false });
+  drawMark(it.crew);
   return row;
 }
 
@@ -40,7 +40,7 @@ function describe(it) {
   return it.kind === 'ground' ? `ground duty ${it.task}` : `flying ${it.id} for another airline`;
 }
 function dutyBar(it, n, list, lanes) {
-  const isFirst = list.findIndex(other => other.kind === it.kind && other.id === it.id) === n, exceeds = exceededBy(it).join(', ');
+  const isFirst = list.findIndex(other => other.kind === it.kind && other.id === it.id) === n, exceeds = it.exceeds.join(', ');
   const kind = it.kind === 'pairing' ? it.flown ? 'flown' : 'plan' : it.kind;
   const label = it.kind === 'ground' ? it.task : it.kind === 'pairing' && !isFirst ? `/${it.period}` : it.id;
   const isTight = lanes[n] > 0 || list.some((other, k) => lanes[k] > 0 && other.begin < it.end && it.begin < other.end);
@@ -55,10 +55,10 @@ function dutyBar(it, n, list, lanes) {
 
 // Draws a member's duties, if they were read and the row is near the window (or `anyway`).
 export function drawRow(crew, anyway) {
-  const it = view.rows.get(crew), roster = known.rosters.get(crew);
-  if (!it || !roster || !(it.isNear || anyway)) return;
+  const it = view.rows.get(crew), duties = known.board.duties?.get(crew);
+  if (!it || !duties || !(it.isNear || anyway)) return;
   it.isDrawn = true;
-  const list = roster.filter(isShown), { lanes } = lanesOf(list), back = refocus(it.track);
+  const list = duties.filter(isShown), { lanes } = lanesOf(list), back = refocus(it.track);
   it.hours.textContent = hm(sum(list, 'flight'));
   fill(it.track, list.map((duty, n) => dutyBar(duty, n, list, lanes)));
   markPanel(it.track);
@@ -73,17 +73,6 @@ export function drawAll() {
   back(anew);
   markPanel(anew);
 }
-// Reads the rosters that aren't there yet, one after the other.
-export async function readRosters(stop) {
-  try {
-    for (const { crew } of known.members) {
-      await rosterOf(crew, 2, stop);
-      if (stop.aborted) return;
-      if (!view.rows.get(crew)?.isDrawn) drawRow(crew);
-    }
-  } catch (why) { unlessLost(why); }
-}
-
 function openBar(it, n, list, lanes) {
   const needs = freeSeats(it).join(' and ');
   return bar(it, nextIn(list, lanes, n), ['open', freeSeats(it).length === 1 && 'half'], labels(it, it.pairing), {

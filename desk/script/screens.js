@@ -8,7 +8,7 @@ import { exceedancesScreen } from './exceeded.js';
 import { focusOn } from './gridkeys.js';
 import { importScreen } from './importing.js';
 import { keep, kept } from './kept.js';
-import { known, memberOf } from './known.js';
+import { IN_USE, UNSENT, detailOf, known, memberOf, pairingOf, rosterOf } from './known.js';
 import { clearMarks } from './marks.js';
 import { memberView } from './member.js';
 import { membersScreen } from './members.js';
@@ -16,7 +16,9 @@ import { openScreen } from './open.js';
 import { otherDuty } from './otherduty.js';
 import { pairingView } from './pairing.js';
 import { markPanel } from './rows.js';
+import { around, chooseView } from './view.js';
 
+const MOMENTS = 30;  // a tenth of a second apart
 const SCREENS = {
   board: boardScreen, open: openScreen, exceedances: exceedancesScreen, members: membersScreen, import: importScreen,
   member: ([crew], stop) => memberView(crew, stop, true, takeMine), pairing: ([id], stop) => pairingView(id, stop, true),
@@ -25,8 +27,9 @@ const PANELS = {
   pairing: ([id], stop) => pairingView(id, stop), member: ([crew], stop) => memberView(crew, stop),
   ground: ([crew, id], stop) => otherDuty('ground', crew, id, stop), outside: ([crew, id], stop) => otherDuty('outside', crew, id, stop),
 };
-const shown = { screen: null, panel: null, from: null, stopScreen: new AbortController(), stopPanel: new AbortController() };
-export const isOnBoard = () => shown.screen?.startsWith('board');
+// What each part of the page shows, and whether that was read anew since it was drawn.
+const shown = { main: {}, panel: {}, from: null };
+export const isOnBoard = () => shown.main.to.startsWith('board');
 
 // The link to the member who sits here.
 export function drawMine() {
@@ -41,7 +44,7 @@ function takeMine(crew) {
   const { base } = memberOf(crew) ?? {};
   if (zones.get(base)) chooseClock(base);
   known.recount();
-  show({ isAnew: true });
+  show(true, UNSENT);
 }
 
 // (A phone begins with the page of the member whose phone it is.)
@@ -49,54 +52,80 @@ function current() {
   const { screen, panel } = address(), home = isPhone() && kept('me') ? ['member', kept('me')] : ['board'];
   return { screen: Object.hasOwn(SCREENS, screen[0]) ? screen : home, panel: panel && Object.hasOwn(PANELS, panel[0]) ? panel : null };
 }
-// Whether somebody types something in a part of the page that isn't sent yet.
-const isTypedIn = (part, isGentle) => all('[data-typed]', part).some(it => isGentle || !it.closest('form[data-sent]'));
+// The days to read for the board, if it is what the address says.
+export function boardWindow() {
+  const [name, day, zoom] = current().screen;
+  if (name !== 'board') return null;
+  chooseView(day, zoom);
+  return around();
+}
 
-function drawScreen([name, ...words], isAnew) {
-  const grid = $('grid'), scrolled = grid ? [grid.scrollLeft, grid.scrollTop] : [0, 0], top = scrollY, main = $('main'), isFirst = !shown.screen;
-  shown.stopScreen.abort();
-  shown.stopScreen = new AbortController();
+function drawScreen([name, ...words], isAnew, stop) {
+  const grid = $('grid'), scrolled = grid ? [grid.scrollLeft, grid.scrollTop] : [0, 0], top = scrollY, main = $('main');
+  const isFirst = !document.body.className;
   document.body.className = name;
-  fill(main, SCREENS[name](words, shown.stopScreen.signal));
+  fill(main, SCREENS[name](words, stop));
   const heading = main.querySelector('h1');
   document.title = `${heading.textContent} – Roster book`;
   for (const it of all('nav a')) it.ariaCurrent = it.hash.slice(2).split('/')[0] === name ? 'page' : null;
   if ($('grid')) requestAnimationFrame(() => $('grid')?.scrollTo(isAnew ? scrolled[0] : todayAt(), scrolled[1]));
-  if (isAnew) scrollTo(0, top);
+  if (isAnew) setTimeout(() => scrollTo(0, top));
   else if (!$('grid') || !grid) {
     scrollTo(0, 0);
     if (!isFirst) heading.focus();
   }
 }
-function drawPanel(panel, isAnew) {
-  const box = $('panel');
-  shown.stopPanel.abort();
-  shown.stopPanel = new AbortController();
+// What is drawn anew may have parts that must be read first: what is to be done to them is tried until it is done.
+function again(isDone, otherwise, tries = MOMENTS) {
+  if (isDone()) return;
+  if (tries) setTimeout(again, 100, isDone, otherwise, tries - 1);
+  else otherwise?.();
+}
+// Scrolls as far as before, unless somebody has scrolled meanwhile.
+function scrollBack(box, top) {
+  let last = box.scrollTop;
+  again(() => {
+    if (last !== box.scrollTop) return true;
+    box.scrollTop = top;
+    last = box.scrollTop;
+    return last >= top;
+  });
+}
+function drawPanel(panel, isAnew, stop) {
+  const box = $('panel'), top = isAnew ? box.scrollTop : 0;
   box.hidden = !panel;
   if (!isAnew) clearMarks();
   if (panel) {
     const close = h('button.close', { onclick: leavePanel, label: 'Close the panel', key: 'close' }, '✕');
-    fill(box, close, PANELS[panel[0]](panel.slice(1), shown.stopPanel.signal));
+    fill(box, close, PANELS[panel[0]](panel.slice(1), stop));
   } else fill(box);
-  if (panel && !isAnew) {
-    box.scrollTop = 0;
-    box.focus({ preventScroll: true });
-  }
+  setTimeout(scrollBack, 0, box, top);
+  if (panel && !isAnew) box.focus({ preventScroll: true });
   markPanel();
   for (const it of all('tr.go')) it.setAttribute('aria-selected', !!panel && it.querySelector('a').hash.endsWith('+' + panel.join('/')));
 }
 
-// Draws what the address says. Drawn anew, since the book was read again, it keeps the focus and how far it was scrolled.
-export function show({ isAnew = false, isGentle = false } = {}) {
-  const { screen, panel } = current(), screenKey = screen.join('/'), panelKey = panel?.join('/') ?? null, focus = document.activeElement?.dataset.key;
-  const isInPanel = $('panel').contains(document.activeElement);
-  const isOther = screenKey !== shown.screen, isOtherPanel = panelKey !== shown.panel;
-  if (isOtherPanel && panel) shown.from = focus;
-  if (isOther || isAnew && !isTypedIn($('main'), isGentle)) drawScreen(screen, !isOther);
-  shown.screen = screenKey;
-  if (isOtherPanel || isAnew && !isTypedIn($('panel'), isGentle)) drawPanel(panel, !isOtherPanel);
-  shown.panel = panelKey;
-  if (isAnew && focus) (keyed(focus) ?? (isInPanel && panel ? $('panel') : null))?.focus({ preventScroll: true });
+// Draws what the address says, and a part that was read anew once nothing `held` stands in it. The focus stays.
+export function show(isAnew, held = IN_USE) {
+  const { screen, panel } = current(), { activeElement: focus, body } = document, { key } = focus.dataset, box = focus.closest('#panel');
+  const alike = () => all(focus.tagName).filter(it => it.isEqualNode(focus)), n = alike().indexOf(focus);
+  if (panel && panel.join('/') !== shown.panel.to) shown.from = key;
+  for (const [id, words, draw] of [['main', screen, drawScreen], ['panel', panel, drawPanel]]) {
+    const part = shown[id], to = words?.join('/'), isOther = to !== part.to;
+    part.isStale ||= isAnew;
+    if (!isOther && (!part.isStale || $(id).querySelector(held))) continue;
+    part.stop?.abort();
+    Object.assign(part, { to, isStale: false, stop: new AbortController() });
+    draw(words, !isOther, part.stop.signal);
+  }
+  if (focus === body) return;
+  again(() => document.activeElement !== body || (key ? keyed(key) : alike()[n])?.focus({ preventScroll: true }), () => box?.focus());
+}
+// Draws it anew, since the book was read again. What the screen or the panel is of is read before, so that it is there at once.
+export async function redraw(held) {
+  const { screen, panel } = current();
+  await Promise.all([screen, panel ?? []].map(([kind, id]) => kind === 'pairing' ? pairingOf(id) && detailOf(id) : memberOf(id) && rosterOf(id)));
+  show(true, held);
 }
 // Closes the panel, and brings the focus back to where it was opened.
 export function leavePanel() {

@@ -68,10 +68,10 @@ async function post(make, words) {
 export const send = command => post(number => ({ path: '/requests', body: JSON.stringify({ number, ...command }) }), phrases(command));
 export const sendSchedule = (csv, words) => post(number => ({ path: `/imports/${number}`, body: csv }), { words, refused: words });
 
-// How the book would answer a command now; it keeps nothing of it.
-export async function check(command, signal) {
-  const { status, text } = await ask('/checks', { body: JSON.stringify({ number: freshNumber(), ...command }), signal });
-  return { status, ...JSON.parse(text) };
+// How the book would answer each of these commands now, as if it were alone; it keeps nothing of them.
+export async function checks(commands, signal) {
+  const body = commands.map(it => JSON.stringify({ number: freshNumber(), ...it })).join('\n');
+  return JSON.parse((await ask('/lines/checks', { body, signal })).text).answers;
 }
 
 // Sends what an earlier visit left without an answer; `hear(it, answer)` is called for each.

@@ -2,21 +2,19 @@
 
 import { sendAgain } from './acting.js';
 import { beside, go } from './address.js';
-import { NoAnswer } from './asking.js';
 import { chooseClock, clock, zones } from './clock.js';
 import { $, fill, h } from './dom.js';
 import { drawDrag, isDragged } from './drag.js';
 import { focusOn } from './gridkeys.js';
 import { help, listenToKeys } from './keys.js';
-import { known, memberOf, openPairings, pairingOf, readAgain, readLists } from './known.js';
+import { UNSENT, known, memberOf, openPairings, pairingOf, readAgain } from './known.js';
 import { marks } from './marks.js';
-import { tell, watchLine } from './messages.js';
-import { reading } from './reading.js';
+import { tell } from './messages.js';
 import { drawMark, drawRow } from './rows.js';
-import { drawMine, show } from './screens.js';
+import { boardWindow, drawMine, redraw, show } from './screens.js';
 import { view } from './view.js';
+import { watchBook } from './watching.js';
 
-const OLD = 60_000;  // milliseconds, after which the book is read again when somebody comes back to the page
 const FOUND = 3000;  // pairings that the field offers
 
 function drawHead() {
@@ -32,7 +30,7 @@ function drawHead() {
 function setClock(base) {
   chooseClock(base);
   drawHead();
-  show({ isAnew: true });
+  show(true, UNSENT);
 }
 function nextClock() {
   const all = ['UTC', ...zones.keys()];
@@ -47,20 +45,19 @@ function find(text) {
 }
 
 function listen() {
-  document.addEventListener('click', e => {
+  addEventListener('click', e => {
     const bar = e.target.closest('.duty');
     if (!bar) return;
     focusOn(bar);
     location.hash = beside(bar.dataset.to);
   });
   // What is typed stays when the book is read again, until it is sent.
-  document.addEventListener('input', e => {
-    if (!e.target.matches('textarea, input:not([type=search], [type=checkbox], [type=radio], [type=file])')) return;
+  addEventListener('input', e => {
+    if (!e.target.matches('form select, textarea, input:not([type=search], [type=checkbox], [type=radio], [type=file])')) return;
     e.target.dataset.typed = '1';
     e.target.closest('form')?.removeAttribute('data-sent');
   });
-  document.addEventListener('submit', e => { e.target.dataset.sent = '1'; }, true);
-  document.addEventListener('visibilitychange', () => { if (!document.hidden && Date.now() - known.readAt > OLD) readAgain(); });
+  addEventListener('submit', e => { e.preventDefault(); e.target.dataset.sent = '1'; }, true);  // (the form's part sends it)
   addEventListener('hashchange', () => show());
   addEventListener('beforeprint', () => { for (const [crew, row] of view.rows) if (!row.isDrawn) drawRow(crew, true); });
   $('skip').addEventListener('click', e => { e.preventDefault(); $('main').focus(); });
@@ -71,25 +68,15 @@ function listen() {
   listenToKeys(nextClock);
 }
 
-async function firstReading() {
-  for (;;) {
-    try {
-      return await readLists();
-    } catch (why) {
-      if (!(why instanceof NoAnswer)) throw why;
-      await new Promise(done => setTimeout(done, 2000));
-    }
-  }
-}
-async function start() {
-  known.recount = drawHead;
-  watchLine(() => reading.members(1), () => known.readAt && readAgain());
-  await firstReading();
-  known.redraw = isGentle => show({ isAnew: true, isGentle });
+// Once the book was read for the first time.
+function beginWork() {
+  known.redraw = redraw;
   marks.draw = crew => { drawMark(crew); if (isDragged()) drawDrag(); };
   listen();
   show();
   document.documentElement.dataset.ready = '1';
   sendAgain();
 }
-start();
+Object.assign(known, { recount: drawHead, window: boardWindow, redraw: beginWork });
+watchBook();
+readAgain();

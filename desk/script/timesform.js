@@ -8,7 +8,7 @@ import { at, hm, iso } from './instants.js';
 import { exceededBy, nameOf } from './known.js';
 import { explained } from './refusals.js';
 import { limitName } from './sections.js';
-import { check } from './sending.js';
+import { checks } from './sending.js';
 import { UNREAD, areRead } from './timefield.js';
 
 const DELAY = 250, LATER = 2000;  // milliseconds after a key; after a check without an answer
@@ -51,15 +51,14 @@ export function timesForm(css, { head, report, release, segments, verb, isCorrec
     asked = new AbortController();
     if (!areRead(fields())) return say(h('p.soft.small', UNREAD));
     if (written() === first) return say(h('p.soft.small', 'These times are in the book.'));
-    const what = command(), { signal } = asked, answer = await check(what, signal).catch(unlessLost);
+    const what = command(), { signal } = asked, [answer] = await checks([what], signal).catch(unlessLost) ?? [];
     const told = answer && await verdictOn(answer, what);
     if (signal.aborted) return;
     if (!answer) { timer = form.isConnected && setTimeout(judge, LATER); return; }
     button.disabled = answer.result !== 'accepted';
     say(told);
   }
-  function record(e) {
-    e.preventDefault();
+  function record() {
     button.disabled = true;
     act(command()).finally(() => { button.disabled = false; });
   }

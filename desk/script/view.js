@@ -2,12 +2,13 @@
 
 import { addDays, addMonths, bestMonth, dayOf, midnight, monthOf, weekday, ymd } from './clock.js';
 import { go } from './address.js';
-import { now } from './instants.js';
+import { DAY, at, now } from './instants.js';
 import { keep, kept } from './kept.js';
 import { known } from './known.js';
 
 export const ZOOMS = { week: ['Week', 7], fortnight: ['2 weeks', 14], month: ['Month', 0] };  // with so many days; a month has its own
 const CROWDED = 36;  // pixels of a day
+const FIRST = at('2000-01-01T00:00Z');
 
 export const view = {
   from: 0, to: 0, zoom: 'month', width: 1000,
@@ -37,8 +38,9 @@ export function chooseView(day, zoom) {
   view.to = count ? addDays(view.from, count) : addMonths(view.from, 1);
   view.days = [];
   for (let n = 0; addDays(view.from, n) < view.to; n++) view.days.push(addDays(view.from, n));
-  view.rows.clear();
 }
+// What is read of the book for it: a day more at both ends, so that it is enough by any clock. The book has no days before 2000.
+export const around = () => ({ from: Math.max(FIRST, view.from - DAY), to: view.to + DAY });
 export const goTo = (m, zoom = view.zoom) => go(`board/${ymd(m)}/${zoom}`);
 export const step = n => goTo(ZOOMS[view.zoom][1] ? addDays(view.from, n * ZOOMS[view.zoom][1]) : addMonths(view.from, n));
 export const zoomTo = zoom => goTo(view.zoom === 'month' && zoom !== 'month' ? bestWeek(view.from) : view.from, zoom);
