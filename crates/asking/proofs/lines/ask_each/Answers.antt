@@ -26,7 +26,7 @@ returns-in_err-answers-clause-asked g c =
     let requests = asked_of c.args.lines.now in
     let err = err_from_is_err_and c.from_residual.result c.from_residual.ensures.1 in
     subst (AreTaken (IsAnswered g.S.Store) c.args.book.now c.args.book.now requests) (sym (err.1 ∙ ap Err err.2))
-        (no_memory_at_once (IsAnswered g.S.Store) c.args.book.now requests)
+    (no_memory_at_once (IsAnswered g.S.Store) c.args.book.now requests)
 
 -- a line has no answer
 pub returns-in_err-answer : goal.returns-in_err-answer
