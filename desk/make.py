@@ -8,8 +8,8 @@
 `shell.html` has a place for the style, which is made of `style/*.css` in the order of STYLES, and one for the script. The parts of the
 script are modules that say what they import; here they become one module, each behind those that it imports, without its imports. So no
 two parts may have the same name at the top, and none may import itself by a detour. Comments are left out of the page, and blanks that
-mean nothing; there `const` is `let`, once for declarations that follow each other, `true` is `!0`, and no semicolon stands before a brace or
-at the end of a line where none is needed. The policy allows one script and one style, by their hashes, and nothing else.
+mean nothing; there `const` is `let`, once for declarations that follow each other, `true` is `!0`, no semicolon stands before a brace or
+at the end of a line where none is needed, and the style's colours and lengths have a letter each for a name. The policy allows one script and one style, by their hashes, and nothing else.
 """
 
 import base64
@@ -17,6 +17,7 @@ import hashlib
 import re
 import sys
 from pathlib import Path
+from string import ascii_letters
 
 HERE = Path(__file__).resolve().parent
 CRATE = HERE.parent / "crates" / "desk" / "src"
@@ -151,13 +152,20 @@ def joined(script):
     return re.sub(r";\n(?=(?:let|function|async function|class) )", "\n", whole)
 
 
+def renamed(style, script):
+    """The style with letters for the names of its own values, but for those that the script sets."""
+    names = dict.fromkeys(name for name in re.findall(r"--[\w-]+", style) if name not in script)
+    letters = dict(zip(names, ascii_letters, strict=False))
+    return re.sub(r"--[\w-]+", lambda it: f"--{letters.get(it[0], it[0][2:])}", style)
+
+
 def page():
     """The text of the page."""
     style = "".join(lines_of((HERE / "style" / f"{name}.css").read_text(), r"^/\*.*\*/$") for name in STYLES)
     style = re.sub(r" ?([{};,>]) ?|(:) ", r"\1\2", style)
     script = joined("".join(lines_of(part.body, r"(^|  )//.*$| /\*.*\*/", squeezed) for part in parts_of_script()))
     shell = lines_of((HERE / "shell.html").read_text(), r"^<!--.*-->$")
-    made = shell.replace("@STYLE@\n", style).replace("@SCRIPT@\n", script)
+    made = shell.replace("@STYLE@\n", renamed(style, script)).replace("@SCRIPT@\n", script)
     if len(made.encode()) > MOST:
         raise Fault(f"the page has {len(made.encode())} bytes")
     if '"##' in made:

@@ -497,8 +497,8 @@ def try_first_month(seen, visitor):
     seen.expect("the pairing by hand", book.planned("B104"), wanted["periods"])
 
 
-def write_pairing(person, pairing, edges, segments):
-    """Writes a pairing of one period by hand."""
+def write_pairing(person, pairing, edges, segments, is_left=False):
+    """Writes a pairing of one period by hand, and adds it, unless it is left so."""
     person.go("import")
     person.press("Write one pairing by hand")
     form = "main form"
@@ -511,6 +511,8 @@ def write_pairing(person, pairing, edges, segments):
         for name, text in zip(("Flight", "From", "Out", "To", "In"), segment, strict=True):
             person.fill(name, text, row)
     person.fill("Release", edges[1], form)
+    if is_left:
+        return
     person.press("Add pairing")
     person.sees(f"Pairing {pairing} is in the book.")
     person.calm()
@@ -527,9 +529,11 @@ def try_foretold(seen, visitor):
         person.open("member/C1")
         person.press("Record flying for another airline")
         seen.expect("no times yet", person.sees("A time is missing, or isn’t read.", OUTSIDE))
+        person.fill("Report", "2025-06-11 02:00", OUTSIDE)
+        seen.expect("the day by each clock", person.sees("Wed 11 Jun UTC · Tue 10 Jun 22:00 HOME", OUTSIDE))
         for name, text in (("Report", "2025-06-11 07:00"), ("Out 1", "0800"), ("In 1", "1000"), ("Release", "11")):
             person.fill(name, text, OUTSIDE)
-        seen.expect("an example of a time", person.sees("not a time, such as 11:05, +35 or 11 01:05", OUTSIDE))
+        seen.expect("an example of a time", person.sees("write it as 11:05, +35 or 11 01:05", OUTSIDE))
         person.fill("Release", "11 1100", OUTSIDE)
         words = "FDP 3:00 · flight 2:00. These exceedances would stay on record for good:\nAda Ray (C1): Rest before a report, 117.25(e)"
         seen.expect("foretold", person.sees(words, OUTSIDE))
@@ -593,10 +597,10 @@ def try_schedule(seen, visitor):
             seen.expect("why, in the row", f"✗ Record {number} (Q102): {why}." in person.text("tr.wrong"))
         person.fill("The schedule as text", june.replace("Q103,2", "Q103,3"))
         person.press("Import 2 pairings")
-        seen.expect("out of its place", person.sees("Record 7 (Q103): its period, report or release doesn’t go with those of the records around it.", "#told"))
+        seen.expect("out of its place", person.sees("Record 7 (Q103): its period, report or release doesn’t go with the records around it.", "#told"))
         person.fill("The schedule as text", june.replace("2025-06-11T11:45Z", "6/11/2025 11:45"))
         seen.expect("a time", person.sees("1 record can’t be read\nRecord 4 (Q102): out “6/11/2025 11:45” isn’t one such as 2025-06-10T12:00Z."))
-        more = "Its fields have other signs between them than commas: save it as comma separated values. "
+        more = "Its fields are not between commas: save it as comma separated values. "
         for text, more in ((june.replace(",", ";"), more), (june.partition("\n")[2], "")):
             person.fill("The schedule as text", text)
             words = f"This is no schedule. {more}Its first line must be\npairing,period,report,release,flight,from,out,to,in\nWrite"
@@ -604,7 +608,33 @@ def try_schedule(seen, visitor):
         person.fill("The schedule as text", june)
         person.press("Import 2 pairings")
         seen.expect("imported", person.wait(lambda: person.text().count("✓ in the book")), 2)
-    seen.expect("the pairings", [it.split()[0] for it in book.seats()], ["B101", "B102", "B103", "Q102", "Q103"])
+        person.fill("The schedule as text", june.replace("2025-06-11T19:30Z", "2025-06-11T20:30Z").replace("Q103", "Q104"))
+        states = "return [...document.querySelectorAll('tbody tr td:last-child')].map(it => it.textContent)"
+        wanted = ["already there", "there with other times: cancel it first", "new"]
+        seen.expect("what the book has", person.wait(lambda: person.js(states) == wanted))
+        person.press("leave out those that the book has already")
+        person.press("Import 3 pairings")
+        seen.expect("not all", person.sees("1 of 3 pairings imported.", "#told"))
+    seen.expect("the pairings", [it.split()[0] for it in book.seats()], ["B101", "B102", "B103", "Q102", "Q103", "Q104"])
+
+
+def try_by_hand(seen, visitor):
+    """A time that is typed as so much later means what it says beside the times as they stand when the pairing is added."""
+    book = seen.book(OFFICE)
+    with at_desk(seen, visitor, book) as person:
+        person.open()
+        write_pairing(person, "B900", ("2025-06-20 12:00", "+0:30"), (("RB1", "BOS", "1300", "IAD", "1430"),), is_left=True)
+        form = "main form"
+        seen.expect("beside the segment", person.sees("Fri 20 Jun UTC · Fri 20 Jun 11:00 HOME", form))
+        person.press("One more segment", form)
+        for name, text in (("Flight", "RB2"), ("To", "BOS"), ("Out", "1530"), ("In", "1700")):
+            person.fill(name, text, f"{form} fieldset > .stack > .stack > .fields:nth-child(2)")
+        seen.expect("beside the other", person.sees("Fri 20 Jun UTC · Fri 20 Jun 13:30 HOME", form))
+        person.press("Add pairing")
+        person.sees("Pairing B900 is in the book.")
+        person.calm()
+    at = minutes("2025-06-20T12:00Z") - minutes("2000-01-01T00:00Z")
+    seen.expect("as it was meant", book.rows("SELECT report_at, release_at FROM period WHERE pairing = 'B900'"), [(at, at + 330)])
 
 
 def try_names(seen, visitor):
@@ -716,11 +746,14 @@ def try_drag(seen, visitor):
         person.drag("B102", "C1")
         words = "the rest before B102/1 is 9:30, and must be at least 10:00"
         seen.expect("why not, in the air", person.sees(f"B102 to Ada Ray: {words}", ".drag"))
+        barred = "return document.querySelector('.row.over').classList.contains('barred')"
+        seen.expect("her row", person.js(barred))
         person.drop()
         seen.expect("refused", person.sees("Ada Ray (C1) was not assigned to B102:", "#told"))
         seen.expect("the reason", person.sees(f"It would break a limit.\nAda Ray (C1):\n{words} (117.25(e))\nTake another member, or other times.", "#told"))
         person.drag("B102", "C2")
         seen.expect("allowed, in the air", person.sees("B102 to Bo Lind: may fly", ".drag"))
+        seen.expect("his row", person.js(barred), False)
         person.drop()
         seen.expect("assigned", person.sees("Bo Lind (C2) flies B102.", "#told"))
         person.drag("B103", "F1")
@@ -728,7 +761,7 @@ def try_drag(seen, visitor):
         person.drop()
         seen.expect("taken back", person.text(".drag"), "")
         person.drag("B102", "C9")
-        seen.expect("a seat that is taken", person.sees("The captain’s seat of B102 is taken", ".drag"))
+        seen.expect("a seat that is taken", person.sees("The captain’s seat of B102 is taken", ".drag") and person.js(barred))
         person.type(person.key.ESCAPE)
         person.drop()
         person.press("Undo", "#told")
@@ -752,6 +785,10 @@ def try_seats(seen, visitor):
         seen.expect("swapped", person.sees("Captain Bo Lind C2", "main"))
         person.press("Release Jo Poe")
         seen.expect("released", person.sees("Who may fly as first officer?", "main"))
+        person.go("board/2025-06-01/month")
+        seen.expect("no mark of what isn't shown", person.js("return document.querySelectorAll('.row:is(.yes, .no)').length"), 0)
+        person.go("board/2025-06-01/month+pairing/B101")
+        seen.expect("marks of what is", person.wait(lambda: person.js("return document.querySelectorAll('.row:is(.yes, .no)').length")), 2)
     seen.expect("the seats", book.seats(), ["B101 C2 -", "B102 - -", "B103 C1 -"])
 
 
@@ -767,17 +804,25 @@ def try_requests(seen, visitor):
             seen.expect("all duties", person.js("return document.querySelectorAll('.row .duty').length"), 4)
             person.type(person.key.PAGE_DOWN) if person.js("return document.activeElement.closest('#grid')") else person.press("Later")
             seen.expect("the next month", [person.text("h1"), asked_by(person)], ["July 2025", ["/json/board/2025-06-30/2025-08-01"]])
+            person.press("Week", "main")
+            seen.expect("its first week", person.sees("Mon 30 Jun – Sun 6 Jul 2025", "h1"))
+            person.press("Month", "main")
+            seen.expect("and back to it", person.sees("July 2025", "h1"))
+            asked_by(person)
             person.relay.held = threading.Event()
             person.js("location.hash = '#/pairing/B102'")
             seats = "return [...document.querySelectorAll('.candidate .main')].map(it => it.getAttribute('aria-label').split(', ')[1])"
             seen.expect("the lists stand", person.sees(f"{captains - 1} of {captains} may", "main") and person.sees(f"{captains - 2} of {captains - 1} may", "main"))
             allowed = person.js(seats)
+            inert = "return [...document.querySelectorAll('.candidate .main')].map(it => it.closest('ul').inert)"
+            seen.expect("none can be chosen before they are sorted", set(person.js(inert)), {True})
             seen.expect("who may not, and why", "Rest before a report" in person.text("main") and "C1" not in allowed)
             asked = [it for it in asked_by(person) if "/limits/" not in it]
             seen.expect("two requests for two seats", asked, ["/json/pairings/B102", "/lines/checks", "/lines/checks"])
             person.relay.held.set()
             person.calm()
             seen.expect("by how much", person.sees("the rest before B102/1 is 9:30, and must be at least 10:00", "main"))
+            seen.expect("each can be chosen", set(person.js(inert)), {False})
             seen.expect("the same may, those with the fewest hours first", [sorted(person.js(seats)) == sorted(allowed), allowed[0], person.js(seats)[captains - 2]], [True, "C2", "C2"])
             asked_by(person)
             person.go("pairing/B103")
@@ -1199,7 +1244,7 @@ def try_inspector(seen, visitor):
         person.press("Member", "thead")
         seen.expect("sorted by member", person.js(first)[:7], "Ada Ray")
         person.found("return document.querySelector('tbody summary')").click()
-        words = "Flown times of B101/1 are recorded.\nOn record: C1 exceeds 117.13(a), Flight duty period (Table B); F1 exceeds 117.13(a), Flight duty period (Table B)."
+        words = "Flown times of B101/1 are recorded. Handed in: report Tue 10 Jun 2025 17:00, FDP 12:15 · flight 3:30.\nOn record: C1 exceeds 117.13(a), Flight duty period (Table B); F1 exceeds 117.13(a), Flight duty period (Table B)."
         seen.expect("what is kept under its number", person.sees(words, "tbody details"))
         person.press("B101/1", "main")
         seen.expect("the duty, beside the plan", person.sees("117.13(a) Flight duty period (Table B): Ada Ray (C1)", "#panel") and "+4:30" in person.text("#panel"))
@@ -1220,6 +1265,7 @@ def try_paper(seen, visitor):
 
 IN_BROWSER = {
     "first_hour": try_first_hour, "first_month": try_first_month, "foretold": try_foretold, "corrected": try_corrected, "schedule": try_schedule,
+    "by_hand": try_by_hand,
     "names": try_names, "phone": try_phone, "rests": try_rests, "drag": try_drag, "seats": try_seats, "requests": try_requests, "two_desks": try_two_desks, "changes": try_changes,
     "lost_answer": try_lost_answer, "numbers": try_numbers, "room": try_room, "markup": try_markup, "clocks": try_clocks, "zones": try_zones, "keys": try_keys, "screens": try_screens,
     "inspector": try_inspector, "paper": try_paper,

@@ -93,6 +93,6 @@ export function boardScreen([day, zoom], stop) {
     setTabStop();
   });
   return [controls(title), h('p.printonly', `Roster, ${title}, ${clockName()}`), grid,
-    h('div.legend', LEGEND.map(([kind, text]) => h('span', { class: kind }, h('i'), text)), h('span.bad', '▲ exceeds a limit'),
+    h('div.legend', LEGEND.map(([kind, text]) => h('span', { class: kind }, h('i'), text)), h('span.bad', '▲ exceeded a limit'),
       h('span', h('b.good', '✓ '), 'may fly the pairing that is chosen'))];
 }

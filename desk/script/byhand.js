@@ -32,12 +32,14 @@ const planOf = p => ({
 
 export function byHand() {
   const id = h('input', { required: true, maxlength: 12, autocomplete: 'off' }), periods = repeated('period', periodFields);
+  const times = () => periods.list.flatMap(p => [p.report, ...p.segments.list.flatMap(s => [s.out, s.in]), p.release]);
+  const read = () => times().forEach(it => it.read());  // (what one means may depend on those before it)
   async function add() {
-    const times = periods.list.flatMap(p => [p.report, p.release, ...p.segments.list.flatMap(s => [s.out, s.in])]);
-    if (!areRead(times)) return tell(false, UNREAD);
+    read();
+    if (!areRead(times())) return tell(false, UNREAD);
     const pairing = upper(id);
     if (await act({ do: 'add-pairing', pairing, periods: periods.list.map(planOf) })) go('pairing/' + pairing);
   }
-  const form = h('form.stack', { onsubmit: add }, h('div.fields', h('label', 'Pairing', id)), periods.box, h('div', h('button.main', 'Add pairing')));
+  const form = h('form.stack', { onsubmit: add, oninput: read }, h('div.fields', h('label', 'Pairing', id)), periods.box, h('div', h('button.main', 'Add pairing')));
   return h('details.card', h('summary', 'Write one pairing by hand'), form);
 }

@@ -44,7 +44,7 @@ async function figured({ ok, tag }, crew, pairing, signal) {
   return ok || isTaken && !broken.length ? nearness(limits) : broken.length && beyond(broken);
 }
 
-// A list of all: first the verdicts, then the figures. `holder` is who has the seat now, and would be replaced.
+// A list of all: first the verdicts, then the figures, by which those who may are sorted; until then none can be chosen. `holder` is who has the seat now, and would be replaced.
 export function candidates(pairing, seat, signal, holder) {
   const people = known.members.filter(it => it.seat === seat && it.crew !== holder).map(it => ({ ...it }));
   const yes = h('ul.plain'), no = h('ul.plain'), summary = h('summary');
@@ -95,8 +95,12 @@ export function candidates(pairing, seat, signal, holder) {
     if (holder) return lookAt(people);
     (await checks(people.map(({ crew }) => ({ do: 'assign', pairing, crew })), signal)).forEach((answer, n) => take(people[n], verdictOf(answer)));
     draw();
-    for (const ok of [true, false]) await lookAt(people.filter(it => it.ok === ok));
+    for (const ok of [true, false]) {
+      await lookAt(people.filter(it => it.ok === ok));
+      yes.inert = false;
+    }
   }
+  yes.inert = !holder && people.length;
   if (people.length) look().catch(unlessLost);
   draw();
   return h('section.card', { label: title }, h('div.line.end', h('h3', title), progress), people.length > FILTERED && filter, yes, others);

@@ -23,13 +23,14 @@ function outcome() {
 export function drawDrag() {
   const { clientX, clientY } = drag.last, row = document.elementsFromPoint(clientX, clientY).map(it => it.closest('.row')).find(Boolean);
   if (row !== drag.row) {
-    drag.row?.classList.remove('over');
+    drag.row?.classList.remove('over', 'barred');
     row?.classList.add('over');
     drag.row = row;
   }
   const { text, isRefused = false } = outcome(), left = Math.min(clientX + BESIDE, innerWidth - drag.words.offsetWidth - BESIDE);
   drag.words.textContent = text;
   drag.words.classList.toggle('no', isRefused);
+  row?.classList.toggle('barred', isRefused);
   drag.words.style.left = `${Math.max(0, left)}px`;
   drag.words.style.top = `${Math.min(clientY + BESIDE, innerHeight - drag.words.offsetHeight - BESIDE)}px`;
 }
@@ -52,7 +53,7 @@ function finish(isDropped) {
   const { pairing } = drag, crew = drag.row?.dataset.crew;
   drag.stop.abort();
   drag.words.remove();
-  drag.row?.classList.remove('over');
+  drag.row?.classList.remove('over', 'barred');
   Object.assign(drag, { words: null, row: null });
   swallowClick();
   if (address().panel?.[1] !== pairing) clearMarks();

@@ -4,13 +4,14 @@ import { recorded } from './acting.js';
 import { unlessLost } from './asking.js';
 import { clockName, dated, monthName, monthOf } from './clock.js';
 import { all, fill, h } from './dom.js';
-import { hm, now } from './instants.js';
+import { at, hm, now } from './instants.js';
 import { known, nameOf, pairingOf, rosterOf } from './known.js';
 import { phrases } from './phrases.js';
 import { empty, memberLink, select } from './pieces.js';
 import { reading } from './reading.js';
 import { SECTIONS, excess, isRest, limitName, meets, nearestRest } from './sections.js';
 import { enteredAt } from './sending.js';
+import { sumsOf } from './timesform.js';
 
 const chosen = { crew: '', section: '', month: '', order: 'number' };  // (it stays so from screen to screen)
 
@@ -41,7 +42,7 @@ async function amountOf(it, stop) {
 // A number, and once it is pressed what is kept under it.
 function entry({ number, part }) {
   const box = h('div');
-  const read = ({ command, reply }) => fill(box, phrases(command).words + '.', recorded(reply));
+  const read = ({ command, reply }) => fill(box, `${phrases(command).words}. Handed in: report ${dated(at(command.report))}, `, sumsOf(command), recorded(reply));
   return h('details', { ontoggle: () => reading.request(number, part).then(read).catch(unlessLost) }, h('summary', number), box);
 }
 function exceedanceRow(it, amount) {
@@ -98,7 +99,7 @@ export function exceedancesScreen(_, stop) {
   return [
     h('div.line', h('h1', { tabindex: -1 }, 'Exceedances'), told, h('span.line.push.noprint', choices, h('button', { onclick: () => print() }, 'Print'))),
     h('p.soft.small', 'Limits of 14 CFR Part 117 that flown times, or flying for another airline, exceeded when they were entered. ',
-      'A record stays for good, also if the times are corrected later; by how much is told of the times now.'),
+      'A record stays, also if the times are corrected; by how much is told of the times now.'),
     h('p.printonly', `Printed ${dated(now(), 'UTC')} UTC, from the roster book at ${location.host}`),
     known.exceedances.length ? exceedanceTable(body, draw) : empty('No exceedance is on record.'),
   ];

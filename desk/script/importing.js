@@ -22,12 +22,20 @@ async function whyNot(record, pairing) {
   if (fault) return fault;
   const [answer] = await checks([commandOf(pairing)]);
   return OF_A_PAIRING.includes(answer.refusal) ? `${wrongOf(answer)} Period ${answer.period}`
-    : 'its period, report or release doesn’t go with those of the records around it';
+    : 'its period, report or release doesn’t go with the records around it';
+}
+
+// Whether the book has a pairing of this id, and of other times: one that is flown may have them.
+function stateOf({ id, begin, end }) {
+  const it = pairingOf(id);
+  if (!it) return h('span.soft', 'new');
+  return it.isFlown || it.begin === begin && it.end === end ? h('span.tag', 'already there')
+    : h('span.bad', 'there with other times: cancel it first');
 }
 
 // What was read, with a button that hands it in.
 function preview({ pairings, faults }) {
-  const cells = new Map(pairings.map(it => [it, h('td', pairingOf(it.id) ? h('span.tag', 'already there') : h('span.soft', 'new'))]));
+  const cells = new Map(pairings.map(it => [it, h('td', stateOf(it))]));
   const skip = h('input', { type: 'checkbox', checked: true, onchange: count }), button = h('button.main', { onclick: handIn });
   const chosen = () => pairings.filter(it => !(skip.checked && pairingOf(it.id)));
   function count() {
@@ -53,13 +61,14 @@ function preview({ pairings, faults }) {
   }
   async function handIn() {
     button.disabled = true;
+    const all = chosen().length;
     let done = 0;
     for (const { pairings: part, csv } of sheetsOf(chosen())) {
       const answer = await sendSchedule(csv, `Import of ${plural(part.length, 'pairing')}`);
       if (!answer.parts) { await refuse(part, answer, done); break; }
       done += part.filter((it, n) => answered(it, answer.parts[n])).length;
     }
-    if (done) tell(true, `${plural(done, 'pairing')} imported.`);
+    if (done) tell(done === all, `${done < all ? `${done} of ` : ''}${plural(all, 'pairing')} imported.`);
     await readAgain();
   }
   const row = it => h('tr', h('td', it.id), h('td.num', { column: 'Report' }, when(it.begin)),
@@ -76,7 +85,7 @@ function preview({ pairings, faults }) {
   ];
 }
 const unread = text => h('div.note.bad', { role: 'alert' }, h('b', 'This is no schedule. '),
-  /^[^\n]*[;\t]/.test(text) && 'Its fields have other signs between them than commas: save it as comma separated values. ',
+  /^[^\n]*[;\t]/.test(text) && 'Its fields are not between commas: save it as comma separated values. ',
   'Its first line must be', h('p', h('code', HEADER)));
 
 export function importScreen() {

@@ -28,7 +28,7 @@ function dutyRow(duty, duties) {
       ' ', kindTag(duty), duty.plan && h('span.soft.small.below', routeOf([duty.plan])))),
     cell(duty.kind === 'ground' ? 'From – to' : 'Report – release', span(duty)), cell('FDP', duty.fdp != null && hm(duty.fdp)),
     cell('Flight', duty.flight != null && hm(duty.flight)), cell('Rest before', rest < LONG_REST && hm(Math.max(0, rest))),
-    h('td', sections.length > 0 && h('span.bad', `▲ exceeds ${sections.join(', ')}`)));
+    h('td', sections.length > 0 && h('span.bad', `▲ exceeded ${sections.join(', ')}`)));
 }
 function monthTable(name, month, duties) {
   const list = duties.filter(it => it.end > month && it.begin < addMonths(month, 1));

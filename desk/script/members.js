@@ -20,7 +20,7 @@ function memberForm() {
   }
   return h('form.card', { onsubmit: add }, h('h2', 'Add a member'),
     h('div.fields', h('label', 'Id', id), h('label', 'Name', name), h('label', 'Seat', seat), h('label', 'Base', base)),
-    h('p.soft.small', 'Id, seat, name and base can’t be changed later. Tables A and B go by the clock of the base.'),
+    h('p.soft.small', 'Id, seat, name and base can’t be changed. Tables A and B go by the clock of the base.'),
     h('div', h('button.main', 'Add member')));
 }
 
@@ -41,7 +41,7 @@ function baseForm() {
   draw();
   return h('form.card', { onsubmit: add, oninput: draw, onchange: draw }, h('h2', 'Add a base'),
     h('div.fields', h('label', 'Id', id), h('label', 'Zone', place), typed), hint,
-    h('p.soft.small', 'A base can’t be changed or removed: check its zone first.'), h('div', h('button.main', 'Add base')));
+    h('p.soft.small', 'A base stays as it is: check its zone first.'), h('div', h('button.main', 'Add base')));
 }
 function baseRow({ base, zone }) {
   const read = zoneOf(zone);

@@ -46,7 +46,7 @@ export function outsideForm(crew, duty) {
   const release = timeField('Release', { value: duty?.end, near: () => segments.list.at(-1).in.at ?? report.at });
   const head = () => ({ do: 'record-outside', outside: id.value, crew });
   return timesForm('form.stack', { head, report, release, segments: segments.list, verb: 'Record', isCorrection: duty }, [
-    h('p.small.soft', 'It counts in all limits but Tables A and B (117.23(a)). It stays for good, and so does each limit that it exceeds; recorded again under its id, it has the new times.'),
+    h('p.small.soft', 'It counts in all limits but Tables A and B (117.23(a)). It and each limit that it exceeds stay for good; recorded again under its id, it has the new times.'),
     h('div.fields', report), segments.box, h('div.fields', release, h('label', 'Id', id)),
   ]);
 }

@@ -67,20 +67,20 @@ function cancelling(it) {
   const isHeld = freeSeats(it).length < SEATS.length;
   const cancel = () => act({ do: 'cancel-pairing', pairing: it.pairing }).then(isDone => isDone && closePanel());
   return h('div.line.noprint', twice('Cancel pairing', `Cancel ${it.pairing} for good?`, cancel, { disabled: isHeld }),
-    isHeld && h('span.soft.small', 'release both seats first'));
+    isHeld && h('span.soft.small', 'free its seats first'));
 }
 
 function parts(it, stop, heading) {
-  const extra = h('div.stack.extra');
+  const extra = h('div.stack.extra'), mark = () => startMarks(heading === 'h2' && it.pairing);  // (its own page has no board behind it)
   let inner = new AbortController();
   const open = make => {
     inner.abort();
     inner = new AbortController();
-    startMarks(it.pairing);
+    mark();
     fill(extra, make(AbortSignal.any([stop, inner.signal])));
     extra.querySelector('button, input')?.focus();
   };
-  startMarks(it.pairing);
+  mark();
   return [
     h('div.line.end', h(heading, { tabindex: -1 }, `Pairing ${it.pairing} `, tag(it.isFlown)),
       h('span.soft.num', `${days(it)} · ${clockName()}`)),

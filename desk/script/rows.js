@@ -47,9 +47,9 @@ function dutyBar(it, n, list, lanes) {
   const figures = it.fdp != null && `FDP ${hm(it.fdp)}, flight ${hm(it.flight)}`;
   return bar(it, nextIn(list, lanes, n), [kind, exceeds && 'exceeds', isTight && 'tight'], labels(it, label), {
     key: `${it.crew} ${it.key}`, 'data-to': dutyPanel(it), style: { '--lane': lanes[n] },
-    label: `${nameOf(it.crew)}: ${describe(it)}, ${when(it.begin)} to ${when(it.end)}${exceeds && ', exceeds ' + exceeds}`,
+    label: `${nameOf(it.crew)}: ${describe(it)}, ${when(it.begin)} to ${when(it.end)}${exceeds && ', exceeded ' + exceeds}`,
     title: [`${it.kind === 'ground' ? it.task : it.name}  ${when(it.begin)} – ${when(it.end)}`, figures,
-      exceeds && `exceeds ${exceeds}`].filter(Boolean).join('\n'),
+      exceeds && `exceeded ${exceeds}`].filter(Boolean).join('\n'),
   });
 }
 

@@ -1,7 +1,7 @@
 // A field for an instant. Times are typed in UTC: 1105 or 11:05; 11 0105, with a day of the month; 2025-06-11 01:05; or +35, minutes after
 // the plan. What was read stands below, with the clock of the base.
 
-import { clock, date, time, zones } from './clock.js';
+import { clock, date, when, zones } from './clock.js';
 import { h } from './dom.js';
 import { DAY, iso, signed } from './instants.js';
 
@@ -31,11 +31,11 @@ export function readTime(text, near) {
 }
 const nearest = (m, near) => m + DAY * Math.round((near - m) / DAY);
 
-// What was read: the day, unless it is that of the plan; the clock of the base; how much later than the plan.
+// What was read: the day, unless it is that of the plan; day and time by the clock of the base; how much later than the plan.
 function readText(m, plan) {
   const base = clock.base !== 'UTC' ? clock.base : zones.has('HOME') ? 'HOME' : null;
   const isSameDay = plan != null && Math.floor(m / DAY) === Math.floor(plan / DAY);
-  return [isSameDay ? '' : date(m, 'UTC'), base && `${time(m, base)} ${base}`,
+  return [isSameDay ? '' : `${date(m, 'UTC')} UTC`, base && `${when(m, base)} ${base}`,
     plan != null && m !== plan && signed(m - plan)].filter(Boolean).join(' · ');
 }
 
@@ -55,7 +55,7 @@ export function timeField(name, { value = null, near = () => null, plan = null, 
     field.at = !typed ? null : typed === shown(value) ? value : readTime(typed, near());
     const isWrong = typed !== '' && field.at == null, like = near() == null ? DATED : '11:05, +35 or 11 01:05';
     input.setAttribute('aria-invalid', isWrong);
-    hint.textContent = isWrong ? `not a time, such as ${like}` : field.at == null ? '' : readText(field.at, plan);
+    hint.textContent = isWrong ? `write it as ${like}` : field.at == null ? '' : readText(field.at, plan);
   };
   field.read();
   return field;

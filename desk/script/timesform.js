@@ -14,7 +14,7 @@ import { UNREAD, areRead } from './timefield.js';
 const DELAY = 250, LATER = 2000;  // milliseconds after a key; after a check without an answer
 
 const keyOf = it => it.do === 'actual' ? `pairing ${it.pairing}/${it.period}` : `outside outside ${it.outside}`;
-function sumsOf({ report, segments }) {
+export function sumsOf({ report, segments }) {
   const flight = segments.reduce((total, s) => total + at(s.in) - at(s.out), 0);
   return `FDP ${hm(at(segments.at(-1).in) - at(report))} · flight ${hm(flight)}. `;
 }

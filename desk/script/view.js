@@ -12,6 +12,7 @@ const FIRST = at('2000-01-01T00:00Z');
 
 export const view = {
   from: 0, to: 0, zoom: 'month', width: 1000,
+  month: NaN,  // that was last shown: weeks lead back to it
   seat: '', word: '',  // whose rows
   rows: new Map(),  // of the members that it has
   isSlim() { return this.width / this.days.length < CROWDED; },
@@ -36,6 +37,7 @@ export function chooseView(day, zoom) {
     now());
   view.from = !count ? monthOf(first) : isDay ? first : bestWeek(first);
   view.to = count ? addDays(view.from, count) : addMonths(view.from, 1);
+  if (!count) view.month = view.from;
   view.days = [];
   for (let n = 0; addDays(view.from, n) < view.to; n++) view.days.push(addDays(view.from, n));
 }
@@ -43,4 +45,7 @@ export function chooseView(day, zoom) {
 export const around = () => ({ from: Math.max(FIRST, view.from - DAY), to: view.to + DAY });
 export const goTo = (m, zoom = view.zoom) => go(`board/${ymd(m)}/${zoom}`);
 export const step = n => goTo(ZOOMS[view.zoom][1] ? addDays(view.from, n * ZOOMS[view.zoom][1]) : addMonths(view.from, n));
-export const zoomTo = zoom => goTo(view.zoom === 'month' && zoom !== 'month' ? bestWeek(view.from) : view.from, zoom);
+export function zoomTo(zoom) {
+  const isBack = isShown({ begin: view.month, end: addMonths(view.month, 1) }), week = view.zoom === 'month' ? bestWeek(view.from) : view.from;
+  goTo(zoom !== 'month' ? week : isBack ? view.month : view.from, zoom);
+}

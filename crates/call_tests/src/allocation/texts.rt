@@ -73,41 +73,41 @@ fn as_report(text: Result<String, MemoryFault>) -> Result<String, ReportFault> {
 fn text_once(
     alloc: Global,
     roster: &Roster,
-    subject: Subject<&CrewId, &PairingId>,
+    subject: &Subject<&CrewId, &PairingId>,
 ) -> Result<String, ReportFault> {
     match subject {
         Subject::Crew(who) => roster_text(alloc, roster, who),
-        Subject::Limits { crew, with } => limits_text(alloc, roster, crew, with),
+        Subject::Limits { crew, with } => limits_text(alloc, roster, crew, *with),
         Subject::Pairing(id) => pairing_text(alloc, roster, id),
         Subject::Exceedances => exceedance_text(alloc, roster),
         Subject::Members => as_report(members_text(alloc, roster)),
-        Subject::Pairings(which) => as_report(pairings_text(alloc, roster, which)),
-        Subject::Board(days) => as_report(board_text(alloc, roster, days)),
-        Subject::Request(number) => as_report(request_text(alloc, roster, number)),
+        Subject::Pairings(which) => as_report(pairings_text(alloc, roster, *which)),
+        Subject::Board(days) => as_report(board_text(alloc, roster, *days)),
+        Subject::Request(number) => as_report(request_text(alloc, roster, *number)),
     }
 }
 
 fn json_once(
     alloc: Global,
     roster: &Roster,
-    subject: Subject<&CrewId, &PairingId>,
+    subject: &Subject<&CrewId, &PairingId>,
 ) -> Result<String, ReportFault> {
     match subject {
         Subject::Crew(who) => roster_json(alloc, roster, who),
-        Subject::Limits { crew, with } => limits_json(alloc, roster, crew, with),
+        Subject::Limits { crew, with } => limits_json(alloc, roster, crew, *with),
         Subject::Pairing(id) => pairing_json(alloc, roster, id),
         Subject::Exceedances => as_report(exceedances_json(alloc, roster)),
         Subject::Members => as_report(members_json(alloc, roster)),
-        Subject::Pairings(which) => as_report(pairings_json(alloc, roster, which)),
-        Subject::Board(days) => as_report(board_json(alloc, roster, days)),
-        Subject::Request(number) => as_report(request_json(alloc, roster, number)),
+        Subject::Pairings(which) => as_report(pairings_json(alloc, roster, *which)),
+        Subject::Board(days) => as_report(board_json(alloc, roster, *days)),
+        Subject::Request(number) => as_report(request_json(alloc, roster, *number)),
     }
 }
 
 fn report_once(
     alloc: Global,
     roster: &Roster,
-    subject: Subject<&CrewId, &PairingId>,
+    subject: &Subject<&CrewId, &PairingId>,
     form: Form,
 ) -> Result<String, ReportFault> {
     match form {
@@ -121,7 +121,7 @@ fn add_report(
     alloc: Global,
     reports: &mut MemoryReports,
     roster: &Roster,
-    subject: Subject<&CrewId, &PairingId>,
+    subject: &Subject<&CrewId, &PairingId>,
     form: Form,
     text: &mut String,
 ) -> Result<(), Fault> {
@@ -146,24 +146,24 @@ fn all_reports(
 ) -> Result<String, Fault> {
     let mut text = String::new(alloc);
     for (who, _member) in roster.crew.iter() {
-        add_report(alloc, reports, roster, Subject::Crew(who), form, &mut text)?;
+        add_report(alloc, reports, roster, &Subject::Crew(who), form, &mut text)?;
         let limits = Subject::Limits {
             crew: who,
             with: None,
         };
-        add_report(alloc, reports, roster, limits, form, &mut text)?;
+        add_report(alloc, reports, roster, &limits, form, &mut text)?;
     }
     for (id, _rostered) in roster.pairings.iter() {
         add_report(
             alloc,
             reports,
             roster,
-            Subject::Pairing(id),
+            &Subject::Pairing(id),
             form,
             &mut text,
         )?;
     }
-    for &subject in &LISTS {
+    for subject in &LISTS {
         add_report(alloc, reports, roster, subject, form, &mut text)?;
     }
     let Some(days) = Days::read("2025-06-11", "2025-06-12") else {
@@ -173,12 +173,12 @@ fn all_reports(
         alloc,
         reports,
         roster,
-        Subject::Board(days),
+        &Subject::Board(days),
         form,
         &mut text,
     )?;
     let first = Subject::Request(RequestNumber::FIRST);
-    add_report(alloc, reports, roster, first, form, &mut text)?;
+    add_report(alloc, reports, roster, &first, form, &mut text)?;
     Ok(text)
 }
 
@@ -193,8 +193,8 @@ pub fn report_all(alloc: Global, reports: &mut MemoryReports, form: Form) -> Res
 /// Makes all reports of a roster in JSON, and counts their lines and bytes.
 pub fn count_json(alloc: Global, reports: &mut MemoryReports) -> Result<String, Fault> {
     let text = report_all(alloc, reports, Form::Json)?;
-    let count = count_text(alloc, reports, Some(RequestNumber::FIRST))?;
-    let last = count_text(alloc, reports, None)?;
+    let count = count_text(alloc, reports, &Some(RequestNumber::FIRST))?;
+    let last = count_text(alloc, reports, &None)?;
     let lines = text.lines().count();
     Ok(format!(in alloc; "{lines} reports, {} bytes\n{count}{last}", text.len())?)
 }
@@ -203,13 +203,13 @@ pub fn count_json(alloc: Global, reports: &mut MemoryReports) -> Result<String, 
 fn count_text(
     alloc: Global,
     reports: &mut MemoryReports,
-    next: Option<RequestNumber>,
+    next: &Option<RequestNumber>,
 ) -> Result<String, MemoryFault> {
-    match report_json::count_json(alloc, 2, next) {
+    match report_json::count_json(alloc, 2, *next) {
         Ok(text) => Ok(text),
         Err(_) => {
             reports.memory = true;
-            report_json::count_json(alloc, 2, next)
+            report_json::count_json(alloc, 2, *next)
         }
     }
 }
