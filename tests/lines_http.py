@@ -16,7 +16,7 @@ import tempfile
 from dataclasses import dataclass
 from pathlib import Path
 
-from exchanges import ACCEPTED, LONGEST, STORE, body_of, error, get, post, refused, response
+from exchanges import ACCEPTED, LONGEST, STORE, UNKEPT, body_of, error, get, post, refused, response
 from office import Book, Ran, build, compact, order
 from server import serving
 
@@ -168,10 +168,11 @@ def try_ends(office):
 
 
 def try_many(office):
-    """A thousand lines in one body."""
+    """A thousand lines in one body, and how many requests are kept then."""
     book = office.book()
     asked = "".join(f"{body_of(number, f'hire C{number} captain: Ada Ray')}\n" for number in range(1, 1_001))
-    office.expect_served(book, [(post("/lines", asked), many(*[ACCEPTED] * 1_000))])
+    counted = response(200, '{"count":"1000","next":"1001"}\n', UNKEPT)
+    office.expect_served(book, [(post("/lines", asked), many(*[ACCEPTED] * 1_000)), (get("/json/count"), counted)])
     office.expect("what is kept", kept(book), list(range(1, 1_001)))
 
 

@@ -102,7 +102,7 @@ no_connections() {
 
 # no_days FROM TO: a board of these is a mistake in the command line, also where there is no book.
 no_days() {
-    case_of "no days '$1' '$2'" 2 '' $'error: FROM and TO must be days such as 2025-06-01 and 2025-06-30,\n*Usage: rosterbook board \\[OPTIONS\\] <FILE> <FROM> <TO>\n*' \
+    case_of "no days '$1' '$2'" 2 '' $'error: FROM and TO must be days such as 2025-06-01 and 2025-06-30,\nof the years 2000 to 2099, TO not before FROM, at most 62 days\n*Usage: rosterbook board \\[OPTIONS\\] <FILE> <FROM> <TO>\n*' \
         board "$room/unmade" "$1" "$2"
 }
 
