@@ -39,7 +39,7 @@ fn text(alloc: Global, id: &str) -> Result<Text, Fault> {
 }
 
 /// What the book is asked to show.
-fn show_of(alloc: Global, report: Report) -> Result<Show, Fault> {
+fn show_of(alloc: Global, report: &Report) -> Result<Show, Fault> {
     Ok(match report {
         Report::Crew(id) => Show::Crew(CrewId::new(text(alloc, id)?)),
         Report::Limits { crew, with } => Show::Limits {
@@ -52,9 +52,9 @@ fn show_of(alloc: Global, report: Report) -> Result<Show, Fault> {
         Report::Pairing(id) => Show::Pairing(PairingId::new(text(alloc, id)?)),
         Report::Exceedances => Show::Exceedances,
         Report::Members => Show::Members,
-        Report::Pairings(which) => Show::Pairings(which),
-        Report::Board(days) => Show::Board(days),
-        Report::Request(number) => Show::Request(number),
+        Report::Pairings(which) => Show::Pairings(*which),
+        Report::Board(days) => Show::Board(*days),
+        Report::Request(number) => Show::Request(*number),
     })
 }
 
@@ -90,7 +90,7 @@ fn text_of<S: Alter>(alloc: Global, book: &mut Book<S>, what: &Show) -> Result<S
 }
 
 /// The text of one report.
-fn shown<S: Alter>(alloc: Global, book: &mut Book<S>, report: Report) -> Result<String, Fault> {
+fn shown<S: Alter>(alloc: Global, book: &mut Book<S>, report: &Report) -> Result<String, Fault> {
     let what = show_of(alloc, report)?;
     text_of(alloc, book, &what)
 }
@@ -98,7 +98,7 @@ fn shown<S: Alter>(alloc: Global, book: &mut Book<S>, report: Report) -> Result<
 /// All that a book shows.
 pub fn read_all<S: Alter>(alloc: Global, book: &mut Book<S>) -> Result<String, Fault> {
     let mut all = String::new(alloc);
-    for &report in &REPORTS {
+    for report in &REPORTS {
         all.push_str(shown(alloc, book, report)?.as_str())?;
     }
     Ok(all)
