@@ -303,7 +303,7 @@ def try_bash(office, folder, wanted_zones):
             "serve": ["--connections"],
             "limits": ["--with", "--json"],
             "pairings": ["--open", "--json"],
-            **dict.fromkeys(["roster", "pairing", "exceedances", "members"], ["--json"]),
+            **dict.fromkeys(["roster", "pairing", "exceedances", "members", "board", "request"], ["--json"]),
         }.get(name, [])
         office.expect(f"{name} -", ask(name, "-"), [*more, *options])
     office.expect("init FILE", ask("init", "new.db", "M"), [it for it in wanted_zones if it.startswith("M")])
