@@ -1,13 +1,14 @@
 #!/usr/bin/env python3
 """Makes books of a small airline, and the commands that are timed on them. The times are drawn with a fixed seed.
 
-    airline.py fill BOOK TIMES          fills an empty book with a year, of this many airlines together
+    airline.py fill BOOK TIMES [YEARS]  fills an empty book with a year, of this many airlines together, or with several years
     airline.py ask FOLDER TIMES COUNT   writes the commands for it, a file of lines each kind
     airline.py same BOOK OTHER          whether two books have the same rows in all tables
 
 The year of one airline: 30 captains and 30 first officers fly 9,000 of 10,000 pairings, each pair six days a week, in two segments a
 day. The book has 50,000 requests: each member and pairing is added, both seats are assigned, 6,470 captains are released and take
-their seats again, and 9,000 periods are flown. The commands are of the January after it. Without a year, TIMES is 0.
+their seats again, and 9,000 periods are flown. The commands are of the January after it. Without a year, TIMES is 0. Each of
+several years is like that, with the same members; the last one is 2025, and the ids of pairings count on.
 """
 
 import json
@@ -68,18 +69,25 @@ def hiring(letters, number):
         yield {"do": "add-crew", "crew": f"{letter}{letters}{number}", "seat": seat, "name": "Ada Ray"}
 
 
-# ---- A year.
+# ---- Years.
 
 
-def year(airlines):
-    """The commands that made the book, in their order."""
+def years(airlines, count):
+    """The commands that made the book, in their order: those of the years up to, and with, 2025."""
     rng = random.Random(117)
     for pair in range(PAIRS * airlines):
         yield from hiring("", pair)
-    for turn in range(FLOWN * airlines):
+    for at in range(count):
+        yield from year(rng, airlines, at, YEAR.replace(year=YEAR.year - count + 1 + at))
+
+
+def year(rng, airlines, at, begin):
+    """The commands of the year that begins then, in which so many years have been before it."""
+    flown, of_open = FLOWN * airlines, OPEN * airlines
+    for turn in range(flown):
         day, pair = divmod(turn, PAIRS * airlines)
-        one = day_of_flying(rng, YEAR + timedelta(days=day // 6 * 7 + day % 6))
-        pairing = f"P{turn}"
+        one = day_of_flying(rng, begin + timedelta(days=day // 6 * 7 + day % 6))
+        pairing = f"P{at * flown + turn}"
         yield adding(pairing, one)
         for letter in SEATS.values():
             yield assigning("assign", pairing, f"{letter}{pair}")
@@ -87,14 +95,14 @@ def year(airlines):
             for do in ("release", "assign"):
                 yield assigning(do, pairing, f"C{pair}")
         yield flying(pairing, one)
-    for turn in range(OPEN * airlines):
-        yield adding(f"O{turn}", day_of_flying(rng, YEAR + timedelta(days=turn % 365)))
+    for turn in range(of_open):
+        yield adding(f"O{at * of_open + turn}", day_of_flying(rng, begin + timedelta(days=turn % 365)))
 
 
-def fill(file, airlines):
+def fill(file, airlines, count=1):
     book = opened(file)
     book.execute("BEGIN")
-    for number, command in enumerate(year(int(airlines)), 1):
+    for number, command in enumerate(years(int(airlines), int(count)), 1):
         seat = [*SEATS.values()].index(command["crew"][0]) if "crew" in command else None
         for text, values in changes(number, command, ACCEPTED, seat):
             book.execute(text, values)

@@ -9,8 +9,9 @@ answer of `do --lines` is compared with a count, minute by minute, of docs/RULES
 minute 0 and run for days, what was flown for another holder is recorded late and anew, and some members have no pairing at first. The
 members belong to three bases, and some books are of a week in which daylight saving time begins at one of these. In between, what `limits`
 prints of a member, with a pairing or without one, is compared with such a count of what is nearest to each limit (docs/FORMATS.md,
-"Limits"). The times are the same in each run. What differs is printed on standard error. The last line is 'N passed, M failed', and the exit
-status 1 where M isn't 0.
+"Limits"). In books of three years a minute of a pairing about a year before new duties, or after them, decides of the 1,000 hours: of a
+count that left out such a pairing, in each of several ways, it is shown how often it would answer otherwise. The times are the same in each
+run. What differs is printed on standard error. The last line is 'N passed, M failed', and the exit status 1 where M isn't 0.
 """
 
 import shutil
@@ -423,13 +424,13 @@ class Model:
     outsides: dict = field(default_factory=dict)
 
     def others(self, member, pairing=None, place=None, outside=None):
-        """The member's duties, without a period of a pairing, or without an outside period."""
+        """The member's duties, without a period of a pairing, or without all of them, or without an outside period."""
         periods = [
             period
             for name, its in self.pairings.items()
             if member in self.seats.get(name, ())
             for number, period in enumerate(its)
-            if (name, number) != (pairing, place)
+            if name != pairing or place not in (None, number)
         ]
         periods += [period for name, (who, period) in self.outsides.items() if who == member and name != outside]
         return periods + [training for who, training in self.trainings if who == member]
@@ -458,17 +459,26 @@ class Model:
         pairings, seats = ({name: list(its) for name, its in of.items()} for of in (self.pairings, self.seats))
         return Model(pairings, seats, list(self.trainings), dict(self.outsides))
 
+    def without(self, pairings):
+        """A model of the same book without these pairings."""
+        kept = {name: list(its) for name, its in self.pairings.items() if name not in pairings}
+        return replace(self.copy(), pairings=kept)
+
     def without_outsides(self):
         """A model of the same book without its outside periods."""
         return replace(self.copy(), outsides={})
 
     def refusal(self, member, new_duties):
         """Why the member can't have these duties too, in words, or None."""
-        others = self.others(member)
-        if overlap(new_duties, others):
-            return "11 Overlap"
-        sections = broken(new_duties, others, BASES[member])
-        return " ".join(["12 Limits", *(f"{member} {section}" for section in sections)]) if sections else None
+        return refusal_of([(member, new_duties, self.others(member))])
+
+    def swap(self, pairing, member, other_pairing, other_member):
+        seats = ((member, pairing, other_pairing), (other_member, other_pairing, pairing))
+        refusal = refusal_of([(who, self.pairings[gained], self.others(who, given)) for who, given, gained in seats])
+        if refusal is None:
+            for who, _, gained in seats:
+                self.seats[gained][who in OFFICERS] = who
+        return refusal or "accepted"
 
     def assign(self, pairing, member):
         refusal = self.refusal(member, self.pairings[pairing])
@@ -495,6 +505,14 @@ class Model:
         for member in self.seats[pairing]:
             words += [f"{member} {section}" for section in broken([period], self.others(member, pairing, place), BASES[member])]
         return " ".join(words)
+
+
+def refusal_of(judged):
+    """Why members can't have new duties beside their others, in words, or None."""
+    if any(overlap(new_duties, others) for _, new_duties, others in judged):
+        return "11 Overlap"
+    found = [f"{member} {section}" for member, new_duties, others in judged for section in broken(new_duties, others, BASES[member])]
+    return " ".join(["12 Limits", *found]) if found else None
 
 
 def drawn_period(draws, scale, plan=None):
@@ -688,10 +706,8 @@ class Walk:
         return self.fly(pairing, place, drawn_period(draws, scale, self.model.pairings[pairing][place]))
 
 
-def crewed_book(room, draws, scale, tally):
-    """A book of eight pairings after the horizon, each with a crew, whose periods are flown before it; and what was wrong. The last
-    captain and the last first officer hold none."""
-    walk = Walk(Book.made(room, ZONES["HOME"].rule), Model(), tally, scale.first)
+def hire_all(walk):
+    """Adds the bases and their members to an empty book."""
     for base, zone in ZONES.items():
         if base != "HOME":
             walk.book.settle(f"base {base}: {zone.rule}")
@@ -699,6 +715,13 @@ def crewed_book(room, draws, scale, tally):
         walk.book.settle(f"hire {member} captain {BASES[member]}: Ada Ray")
     for member in OFFICERS:
         walk.book.settle(f"hire {member} first-officer {BASES[member]}: Bo Lind")
+
+
+def crewed_book(room, draws, scale, tally):
+    """A book of eight pairings after the horizon, each with a crew, whose periods are flown before it; and what was wrong. The last
+    captain and the last first officer hold none."""
+    walk = Walk(Book.made(room, ZONES["HOME"].rule), Model(), tally, scale.first)
+    hire_all(walk)
     ends = [scale.end + 3 * DAY * place for place in range(8)]
     far = {f"FAR{place}": [short_period(scale.first, end + draws.below(DAY), draws.below(3) + 1)] for place, end in enumerate(ends)}
     walk.add(far)
@@ -743,6 +766,302 @@ def try_judgement(desk):
         desk.expect(f"{what}: {count} times, which is", "enough" if count >= 10 else "not enough", "enough")
 
 
+# ---- Books of three years, in which a minute of a pairing about a year away decides.
+
+YEAR = 365 * DAY  # the widest window
+YEARS = datetime(2024, 1, 1)  # with which these books begin: in a leap year
+MIDDLE = 540 * DAY  # about here new duties are put
+SIDES = {"C1": -1, "C2": 1, "C3": -1, "F1": 1, "F2": 1, "F3": -1}  # the far duties of a member are before the new ones, or after them
+BULK, ROOM = 59_000, 1_000  # minutes that each member flies for another holder, and what is left to 1,000 hours
+BOOKS, TRIALS = 30, 10
+
+
+def times_of(periods):
+    return [(period.report, period.release) for period in periods]
+
+
+def gap(one, other):
+    """The minutes between two spans."""
+    return max(one[0] - other[1], other[0] - one[1], 0)
+
+
+def are_near(some, others, reach=YEAR):
+    return any(gap(one, other) < reach for one in some for other in others)
+
+
+@dataclass(frozen=True)
+class Trial:
+    """A command of the model that is to be asked, and the duties that it makes new for a member, whose others are those without a pairing, or
+    without a period of one."""
+
+    member: str
+    new: list
+    spans: list  # from report to release, of the periods of each pairing that becomes new for somebody, or of the duty that is recorded
+    do: str
+    values: tuple
+    without: tuple = ()
+    planned: list | None = None  # the spans of the plan of what is flown
+
+    @property
+    def all(self):
+        return list(chain(*self.spans))
+
+    def held(self, model):
+        """The pairings that the judged members hold, without those that are named."""
+        judged = {self.member, *self.values[1::2], *model.seats.get(self.values[0], ())} & SIDES.keys()
+        return [name for name, crew in model.seats.items() if judged.intersection(crew) and name not in self.values]
+
+    def others(self, model):
+        """The member's other duties, without those that fill the 1,000 hours."""
+        _, filling = model.outsides.get(filling_of(self.member), (None, None))
+        return [it for it in model.others(self.member, *self.without) if it != filling]
+
+
+# Whether a pairing is read, which a member holds at these times, and which was planned at those. The first reading leaves out only what no
+# window reaches, each of the others also what one may reach.
+RIGHT = "365 days away"
+READINGS = {
+    RIGHT: lambda trial, held, planned: are_near(trial.all, held),
+    "two minutes nearer than that": lambda trial, held, planned: are_near(trial.all, held, YEAR - 2),
+    "364 days away": lambda trial, held, planned: are_near(trial.all, held, YEAR - DAY),
+    "planned far away": lambda trial, held, planned: are_near(trial.all, planned),
+    "far away in its first period": lambda trial, held, planned: are_near(trial.all, held[:1]),
+    "far away in its last period": lambda trial, held, planned: are_near(trial.all, held[-1:]),
+    "far from the first new period": lambda trial, held, planned: are_near([its[0] for its in trial.spans], held),
+    "far from the last new period": lambda trial, held, planned: are_near([its[-1] for its in trial.spans], held),
+    "far from the plan of what is flown": lambda trial, held, planned: are_near(trial.planned or trial.all, held),
+    "far from the first pairing of a swap": lambda trial, held, planned: are_near(trial.spans[0], held),
+    "far from the second pairing of a swap": lambda trial, held, planned: are_near(trial.spans[-1], held),
+    "before the new duties": lambda trial, held, planned: any(it[1] > trial.all[0][0] for it in held),
+    "after the new duties": lambda trial, held, planned: any(it[0] < trial.all[-1][1] for it in held),
+}
+
+
+def year_minutes(new, others):
+    """The most flight minutes of 365 days that meet those of new duties."""
+    duties = [*others, *new]
+    end = max(last for duty in duties for _, last in duty_spans(duty))
+    flights, of_new = (minutes(its, flight_spans, end) for its in (duties, new))
+    return fullest([day.count(1) for day in days(flights)], bytes(1 in day for day in days(of_new)), 365)[0]
+
+
+def filling_of(member):
+    return f"FILL-{member}"
+
+
+@dataclass
+class Years(Walk):
+    """Such a book, the plans of its pairings, and the members whose 1,000 hours have been filled."""
+
+    plans: dict = field(default_factory=dict)
+    filled: frozenset = frozenset()
+
+    def copy(self):
+        return Years(self.book.copy(), self.model.copy(), self.tally, self.first, [], dict(self.plans), self.filled)
+
+    def plan(self, name, periods):
+        """Adds a pairing, which nobody holds."""
+        flights = [{**written(it, self.at), "segments": [self.flight(*times) for times in it.segments]} for it in periods]
+        self.command({"do": "add-pairing", "pairing": name, "periods": flights}, "accepted")
+        self.plans[name], self.model.pairings[name] = list(periods), list(periods)
+        self.model.seats[name] = [None, None]
+
+    def flight(self, block_out, block_in):
+        return {"flight": "RB1", "from": "BOS", "out": self.at(block_out), "to": "BOS", "in": self.at(block_in)}
+
+    def put(self, name, periods, *members):
+        """Adds a pairing, and assigns it."""
+        self.plan(name, periods)
+        for member in members:
+            self.order("assign", name, member)
+
+    def order(self, do, *values):
+        """One command, as the model answers it."""
+        wanted = getattr(self.model, do)(*values)
+        self.command(self.text_of(do, *values), wanted)
+        return wanted
+
+    def text_of(self, do, *values):
+        """The command of a request."""
+        match do, *values:
+            case "assign", pairing, member:
+                return {"do": "assign", "pairing": pairing, "crew": member}
+            case "swap", pairing, member, other_pairing, other_member:
+                return {"do": "swap", "pairing": pairing, "crew": member, "other_pairing": other_pairing, "other_crew": other_member}
+            case "fly", pairing, place, period:
+                return {"do": "actual", "pairing": pairing, "period": place + 1, **written(period, self.at)}
+            case "record", outside, member, period:
+                return {"do": "record-outside", "outside": outside, "crew": member, **written(period, self.at)}
+
+    def fill(self, member, length=1):
+        """Has a member fly so many minutes for another holder, in place of those before, where each window of a year has them that has
+        the middle and the far duties of the member."""
+        self.filled = self.filled - {member} if length == 1 else self.filled | {member}
+        begin = MIDDLE + SIDES[member] * 120 * DAY
+        self.order("record", filling_of(member), member, Period(None, begin, ((begin, begin + length),), begin + length))
+
+    def decide(self, trial, more):
+        """Asks the command of a trial, after the member's hours have been filled up to 1,000 with it, and so many minutes more; and counts
+        which readings would answer otherwise."""
+        length = 60_000 - year_minutes(trial.new, trial.others(self.model)) + more
+        if not 0 < length <= ROOM:
+            return
+        self.fill(trial.member, length)
+        before = self.model.copy()
+        wanted = self.order(trial.do, *trial.values)
+        told = {frozenset(): wanted}
+        for what, is_read in READINGS.items():
+            read = lambda name: is_read(trial, times_of(before.pairings[name]), times_of(self.plans[name]))
+            left_out = frozenset(name for name in trial.held(before) if not read(name))
+            if left_out not in told:
+                told[left_out] = getattr(before.without(left_out), trial.do)(*trial.values)
+            self.tally[what] += told[left_out] != wanted
+
+
+def drawn_shape(draws):
+    """The times of a period after its report: often a flight of a minute and nothing else, else one or two flights."""
+    if draws.below(3) == 0:
+        return [(0, 1)], 1
+    is_bare = draws.below(2)  # it reports as it blocks out, and ends as it blocks in
+    time, segments = 0 if is_bare else draws.below(60), []
+    for _ in range(draws.below(2) + 1):
+        length = draws.below(15) + 1
+        segments.append((time, time + length))
+        time += length + draws.below(40)
+    return segments, segments[-1][1] + (0 if is_bare else draws.below(60))
+
+
+def placed(walk, shape, begin):
+    segments, length = shape
+    times = tuple((begin + block_out, begin + block_in) for block_out, block_in in segments)
+    return Period(clocks(walk.first + begin), begin, times, begin + length)
+
+
+def at_the_edge(walk, draws, side, day):
+    """A period of this day, and one that is about a year before or after it: most often so that the first or the last day of a window just
+    has a minute of it, or just none; else 365 days away, or a minute more or less."""
+    shape, far = drawn_shape(draws), drawn_shape(draws)
+    spare = draws.one_of([0, 0, 0, draws.below(DAY - shape[1])])
+    new = placed(walk, shape, day + (DAY - shape[1] - spare if side < 0 else spare))
+    if draws.below(5) == 0:
+        nearer = draws.below(3) - 1
+        return new, placed(walk, far, new.report - YEAR + nearer - far[1] if side < 0 else new.release + YEAR - nearer)
+    inside = draws.one_of([0, 1, 1, 1, 1, 2, draws.below(30), draws.below(DAY)])
+    begin = day - 364 * DAY + inside - far[0][-1][1] if side < 0 else day + YEAR - inside - far[0][0][0]
+    return new, placed(walk, far, begin)
+
+
+def moved(walk, period, minutes):
+    """A plan of the same length, this much later."""
+    segments = [(block_out - period.report, block_in - period.report) for block_out, block_in in period.segments]
+    return placed(walk, (segments, period.release - period.report), period.report + minutes)
+
+
+def flown(plan, period):
+    """A plan that is flown at the times of another period."""
+    return replace(period, starts=plan.starts)
+
+
+def in_order(*periods):
+    return sorted(periods, key=lambda it: it.report)
+
+
+def hold_far(walk, draws, name, far, side, crew):
+    """Has a member hold a pairing at the times of the far period: as it was planned, or with another period, farther away. Or a crew flew it
+    then, and it was planned farther away, or the other way round."""
+    farther = moved(walk, far, side * (20 + draws.below(140)) * DAY)
+    kind = draws.below(8)
+    if kind < 2:
+        walk.put(name, [far], crew[0])
+    elif kind < 5:
+        walk.put(name, in_order(far, farther), crew[0])
+    else:
+        plan, times = (farther, far) if kind < 7 else (far, farther)
+        walk.put(name, [plan], *crew)
+        if None not in walk.model.seats[name]:
+            walk.order("fly", name, 0, flown(plan, times))
+
+
+def others_of(member):
+    """The other members with the same side: those of the same seat, if there is one, else None; and those of the other seat."""
+    others = [it for it in SIDES if SIDES[it] == SIDES[member] and it != member]
+    fellows = [it for it in others if (it in OFFICERS) == (member in OFFICERS)]
+    return fellows or [None], [it for it in others if it not in fellows]
+
+
+def prepared(walk, draws, turn):
+    """A trial about a year after far duties of a member, or before them, which are put into the book; or None."""
+    member = draws.one_of(CAPTAINS + OFFICERS)
+    side = SIDES[member]
+    fellow, mate = (draws.one_of(its) for its in others_of(member))
+    for it in sorted(walk.filled.intersection((member, fellow, mate))):
+        walk.fill(it)
+    # What was new before is between these new duties and far ones, so no other window has more.
+    new, far = at_the_edge(walk, draws, side, MIDDLE - side * 3 * turn * DAY)
+    hold_far(walk, draws, f"FAR{turn}", far, side, (member, mate))
+    # A second period, or another time, from which the far duties are too far.
+    elsewhere = moved(walk, new, -side * (200 + draws.below(60)) * DAY)
+    name, old_name, seats = f"NEW{turn}", f"OLD{turn}", walk.model.seats
+    kind = draws.below(6)
+    if kind < 2:
+        periods = in_order(new, elsewhere) if draws.below(2) else [new]
+        walk.plan(name, periods)
+        return Trial(member, periods, [times_of(periods)], "assign", (name, member))
+    if kind == 2:
+        period = replace(new, starts=None)
+        return Trial(member, [period], [times_of([new])], "record", (f"X{turn}", member, period))
+    if kind < 5 and fellow:
+        walk.put(name, [new], fellow)
+        walk.put(old_name, [elsewhere], member)
+        swapped = [(old_name, member, [elsewhere]), (name, fellow, [new])][:: draws.one_of([1, -1])]
+        values = [value for pairing, who, _ in swapped for value in (pairing, who)]
+        trial = Trial(member, [new], [times_of(its) for _, _, its in swapped], "swap", tuple(values), (old_name,))
+        return trial if any(seats[name]) and any(seats[old_name]) else None
+    plan = elsewhere if draws.below(3) else moved(walk, new, draws.below(40) - 20)
+    walk.put(name, [plan], member, mate)
+    period = flown(plan, new)
+    trial = Trial(member, [period], [times_of([period])], "fly", (name, 0, period), (name, 0), times_of([plan]))
+    return trial if None not in seats[name] else None
+
+
+def book_of_years(room):
+    """A book of three years, whose members have flown for another holder nearly as much as they may in one; and what was wrong."""
+    walk = Years(Book.made(room, ZONES["HOME"].rule), Model(), dict.fromkeys(COUNTED, 0), (YEARS - FIRST).days * DAY)
+    hire_all(walk)
+    for member, side in SIDES.items():
+        begin = MIDDLE + (-200 if side < 0 else 160) * DAY
+        walk.order("record", f"BULK-{member}", member, Period(None, begin, ((begin, begin + BULK),), begin + BULK))
+    return walk, walk.ask()
+
+
+def walked_years(start, number):
+    """The first difference in a copy of a book of years, by draws of its own, and how often each reading answered otherwise."""
+    walk, draws = start.copy(), Draws(7_000 + number)
+    walk.tally = dict.fromkeys([*SECTIONS, *READINGS], 0)
+    for turn in range(TRIALS):
+        trial, more = prepared(walk, draws, turn), int(draws.below(5) > 0)
+        if trial:
+            walk.decide(trial, more)
+    difference = walk.ask()
+    shutil.rmtree(walk.book.folder)
+    return difference, walk.tally
+
+
+def try_years(desk):
+    start, difference = book_of_years(desk.room)
+    desk.expect("a book of three years", difference, None)
+    tally = dict.fromkeys(READINGS, 0)
+    with ProcessPoolExecutor() as pool:
+        for number, (difference, counted) in enumerate(pool.map(walked_years, repeat(start), range(BOOKS))):
+            desk.expect(f"book {number} of three years", difference, None)
+            for what in READINGS:
+                tally[what] += counted[what]
+    desk.expect(f"other answers if each pairing is left out that is {RIGHT}", tally.pop(RIGHT), 0)
+    for what, count in tally.items():
+        answers = f"{count} other answers if each pairing is left out that is {what}, which are"
+        desk.expect(answers, "enough" if count >= 10 else "not enough", "enough")
+
+
 @dataclass
 class Desk:
     """A folder for books, and how many answers were right."""
@@ -763,7 +1082,7 @@ def main():
         return 3
     with tempfile.TemporaryDirectory(prefix="judgement-") as room:
         desk = Desk(room)
-        for tried in (try_tables, try_judgement):
+        for tried in (try_tables, try_judgement, try_years):
             tried(desk)
     print(f"{desk.passed} passed, {desk.failed} failed")
     return 1 if desk.failed else 0

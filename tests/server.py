@@ -134,6 +134,14 @@ class Server:
         except OSError:
             return None
 
+    def file_reads(self):
+        """How often it has read files (what comes of a socket isn't among it), or None where the system doesn't say."""
+        try:
+            with open(f"/proc/{self.process.pid}/io") as counts:
+                return next((int(line.split()[1]) for line in counts if line.startswith("syscr:")), None)
+        except OSError:
+            return None
+
     def end(self):
         """How it ended; one that goes on is killed, and has no status."""
         try:

@@ -1,15 +1,17 @@
 #!/usr/bin/env python3
 """Shows how the program reads the tables of a file, and what it leaves in them.
 
-    tests/tables.py
+    tests/tables.py [--reads]
 
 Books of version 1 and of version 2 are made by plain SQL (tests/tables/version_1.sql, version_2.sql), and the program is asked: such
 with a damage, or with two, of which the first table has to be named (damages.txt), and sound ones, whose answers show how their rows are
 read (answers.txt, of those with a second base bases.txt, and of those with outside periods outside.txt). Books that the program makes are
 read by plain SELECTs: after each order of a story (story.txt), with the longest pairing, with the greatest key, and beside other tables.
-One of them is damaged (late.txt), and the tables of others are offered rows that they have to refuse (refused.txt). Each subcommand is
-tried on files that are no book, and on books that can't be opened. The SQL is that of Python's own `sqlite3`, of SQLite 3.37 or newer. What
-differs is printed on standard error. The last line is 'N passed, M failed', and the exit status 1 where M isn't 0.
+One of them is damaged (late.txt), and the tables of others are offered rows that they have to refuse (refused.txt). Books with the index
+of README ("A book of many years") answer as those without it do, and keep it; with --reads it is tried too that less is read of such a
+file, where the system counts what a process reads (/proc/PID/io). Each subcommand is tried on files that are no book, and on books that
+can't be opened. The SQL is that of Python's own `sqlite3`, of SQLite 3.37 or newer. What differs is printed on standard error. The last
+line is 'N passed, M failed', and the exit status 1 where M isn't 0.
 """
 
 import ctypes
@@ -23,9 +25,12 @@ import tempfile
 from contextlib import closing
 from dataclasses import dataclass
 from pathlib import Path
+from types import SimpleNamespace
 
+import office
 from office import TABLES, TOP, ZONE, Book, build, instant, rosterbook
 from reports import A_LATE_PERIOD, MEMBERS, carry_out
+from server import serving
 
 GREATEST = "9223372036854775807"
 
@@ -498,6 +503,119 @@ def try_making(desk):
     desk.expect("a book in a folder", ran("init", desk.room, ZONE), refused("90 Store"))
 
 
+# ---- An index of the office's own, as README has it
+
+OWN_INDEX = re.search(r"CREATE INDEX [^'\"]*", (TOP / "README.md").read_text())[0]
+FIRST_OF_YEARS = 11_789_280  # 2022-06-01T00:00Z
+PAIRINGS_OF_YEARS, LONG_REQUESTS = 3_000, 800
+AFTER_YEARS = """
+    plan N1 20: 11:00 | 12:00-15:00, 16:00-19:00 | 19:30
+    plan N2 21: 04:00 | 05:00-06:00 | 06:30
+    plan N3 20: 18:00 | 18:30-19:30 | 20:00
+    plan N4 24: 11:00 | 12:00-15:00 | 15:30; 25: 11:00 | 12:00-15:00 | 15:30
+    assign N1 C1
+    assign N1 F1
+    assign N2 C1
+    assign N3 C1
+    assign N3 C2
+    assign N4 C1
+    swap N4 C1 P2 C2
+    swap P2 C1 N3 C2
+    train G2 20: 12:00-13:00
+    train G3 22: 12:00-13:00
+    outside X1 C1 26: 01:00 | 02:00-03:00 | 03:30
+    fly N1 1 20: 11:00 | 12:00-15:00, 16:00-+1 01:00 | +1 01:30
+    release N4 C2
+    cancel N4
+"""
+OWN_REPORTS = ("roster FILE C1", "limits FILE C1", "limits FILE C1 --with N2", "pairing FILE Y0", "pairings FILE", "exceedances FILE")
+
+
+def pairings_of_years(count, one_of):
+    """Statements that add so many pairings, one after the other in the three years before June 2025. C1 and F1 hold one of so many, and
+    have flown every second of these, five minutes late."""
+    begin = f"({FIRST_OF_YEARS} + {3 * 525_600 // count} * n)"
+    late = f"CASE WHEN n % {2 * one_of} = 0 THEN {begin} + "
+    statements = (
+        f"CREATE TEMP TABLE years AS WITH RECURSIVE years (n) AS (VALUES (0) UNION ALL SELECT n + 1 FROM years WHERE n < {count - 1})"
+        " SELECT n, 'Y' || n AS id FROM years; INSERT INTO pairing SELECT id FROM years;"
+        f"INSERT INTO period SELECT id, 1, {begin}, {begin} + 390, {late} 5 END, {late} 395 END FROM years;"
+    )
+    for number, start, end, block_out, block_in in ((1, "BOS", "IAD", 60, 180), (2, "IAD", "BOS", 240, 360)):
+        times = f"{begin} + {block_out}, {begin} + {block_in}, {late} {block_out + 5} END, {late} {block_in + 5} END"
+        statements += f"INSERT INTO segment SELECT id, 1, {number}, 'RB{number}', '{start}', '{end}', {times} FROM years;"
+    for seat, crew in enumerate(("C1", "F1")):
+        statements += f"INSERT INTO seat SELECT id, {seat}, '{crew}' FROM years WHERE n % {one_of} = 0;"
+    return statements
+
+
+def without_and_with(desk, statements):
+    """Two files of a sound book after these statements, of which the second has the index too."""
+    file = database(desk.file(), sound(2) + statements)
+    other = file.with_name("own.db")
+    shutil.copy(file, other)
+    return file, database(other, OWN_INDEX)
+
+
+def requests(texts, first=1):
+    return "".join(f"{json.dumps({'number': number, **it})}\n" for number, it in enumerate(texts, first))
+
+
+def try_own_index(desk):
+    """All answers and reports are the same with the index and without it, and so are the rows; it stays, and has all of them."""
+    of_years = [office.order(line.strip()) for line in AFTER_YEARS.strip().splitlines()]
+    for name, statements, asked_of in (
+        ("the story", None, requests(json.loads(kept) for kept, _ in STORY)),
+        ("a book of years", pairings_of_years(300, 3), requests(of_years, 500)),
+    ):
+        if statements is None:
+            files = desk.book(), desk.room / "own.db"
+            shutil.copy(*files)
+            database(files[1], OWN_INDEX)
+        else:
+            files = without_and_with(desk, statements)
+        for words in ("do FILE --lines --dry-run", "do FILE --lines", "do FILE --lines", *OWN_REPORTS):
+            answers = [ran(*(file if it == "FILE" else it for it in words.split()), given=asked_of) for file in files]
+            desk.expect(f"with an index of its own, {name}: {words}", answers[1], answers[0])
+        desk.expect(f"with an index of its own, {name}: the rows", rows(files[1]), rows(files[0]))
+        left = [line for line in told(files[1], "sqlite_schema ") if line not in told(files[0], "sqlite_schema ")]
+        desk.expect(f"{name}: the index", [(name_of(line), line.endswith(OWN_INDEX)) for line in left], [("period_times", True)])
+        with closing(sqlite3.connect(files[1])) as opened:
+            desk.expect(f"{name}: the file", opened.execute("PRAGMA integrity_check").fetchall(), [("ok",)])
+            planned = opened.execute("EXPLAIN QUERY PLAN SELECT * FROM period WHERE pairing = 'P1'").fetchall()
+            desk.expect(f"{name}: SQLite goes by it", "COVERING INDEX period_times" in planned[0][3], True)
+
+
+def long_requests(count):
+    """Statements that add so many kept requests, each of a pairing of 120 flights."""
+    periods = [period_of_twelve(f"2025-06-{day:02}") for day in range(1, 11)]
+    kept = office.compact({"do": "add-pairing", "pairing": "P9", "periods": periods})
+    numbers = f"WITH RECURSIVE numbers (n) AS (VALUES (1000) UNION ALL SELECT n + 1 FROM numbers WHERE n < {999 + count})"
+    return f"INSERT INTO request {numbers} SELECT n, 0, '{kept}', '{reply('accepted')}' FROM numbers;"
+
+
+def reads_of(file):
+    """How often a server reads its file for the first assignment that it judges; None where the system doesn't say."""
+    body = json.dumps({"number": 100, "do": "assign", "pairing": "Y1", "crew": "C1"}).encode()
+    asking = b"POST /checks HTTP/1.1\r\nHost: localhost\r\nContent-Length: %d\r\n\r\n%s" % (len(body), body)
+    with serving(SimpleNamespace(file=file)) as server:
+        before = server.file_reads()
+        answer = server.exchange(asking)
+        if b'"name":"Limits"' not in answer:
+            raise RuntimeError(f"an assignment is answered {answer}")
+        return None if before is None else server.file_reads() - before
+
+
+def try_fewer_reads(desk):
+    """A member is judged by fewer reads with the index, if the program doesn't have in memory what it reads: it keeps 8 MB of a file, and the
+    requests, which it reads after the pairings when it opens the book, are more."""
+    counted = [reads_of(file) for file in without_and_with(desk, pairings_of_years(PAIRINGS_OF_YEARS, 10) + long_requests(LONG_REQUESTS))]
+    if None in counted:
+        print("tests/tables.py: reads weren't counted, since /proc/PID/io isn't there", file=sys.stderr)
+        return
+    desk.expect(f"with an index of its own {counted[1]} reads, and {counted[0]} without it", counted[1] < counted[0], True)
+
+
 def is_refused(file, table, values):
     """Whether the table refuses to keep a row of these values."""
     try:
@@ -530,6 +648,7 @@ TRIED = (
     try_stopped_imports,
     try_making,
     try_refused_rows,
+    try_own_index,
 )
 
 
@@ -540,7 +659,7 @@ def main():
         return 3
     with tempfile.TemporaryDirectory() as room:
         desk = Desk(Path(room))
-        for tried in TRIED:
+        for tried in (*TRIED, try_fewer_reads) if "--reads" in sys.argv[1:] else TRIED:
             tried(desk)
     print(f"{desk.passed} passed, {desk.failed} failed")
     return 1 if desk.failed else 0

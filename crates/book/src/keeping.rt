@@ -159,9 +159,9 @@ impl<S: Alter> Book<S> {
         self.failed
     }
 
-    /// Reads a roster with just what the text of a member, of a member's limits, of a pairing, of the exceedances or of a list
-    /// needs: that text of it is the text of the state that the tables mean. No table is changed. After out of memory (91) the
-    /// call may be made again; after a fault of the store (90) each later call answers 90.
+    /// Reads a roster with just what the text of a member, of a member's limits, of a pairing, of the exceedances, of a list, of a
+    /// board or of a request needs: that text of it is the text of the state that the tables mean. No table is changed. After out of
+    /// memory (91) the call may be made again; after a fault of the store (90) each later call answers 90.
     pub fn show(&mut self, alloc: Global, what: &Show) -> Result<Roster, StoreFault>
         // Whether it has failed: a book that has answers 90 and does nothing.
         ensures failed { self.new.failed ≡ (self.old.failed || is_store_fault result) }

@@ -75,7 +75,7 @@ cause_then a b c p q clean (inr (inr (inr wrong))) = elim (cases_Bool b.is_open)
 ]
 
 -- what was shown is shown after a read
-shows_on : (a b : State) (s : roster.State) → ChangesNothing a b → Shows a s → Shows b s
+pub shows_on : (a b : State) (s : roster.State) → ChangesNothing a b → Shows a s → Shows b s
 shows_on a b s p shows = record {
   sound = shows.sound;
   instants = shows.instants;

@@ -6,6 +6,7 @@ pub mod OnePairing
 pub mod HeldLemmas
 pub mod PlanLemmas
 pub mod PlanReads
+pub mod NearLemmas
 pub mod MemberReads
 pub mod MemberLemmas
 pub mod OutsideReads

@@ -130,17 +130,18 @@ first_of [] [] count y e = absurd (cc)
 first_of [] (z ∷ zs) count y e = absurd (omega (arith, count))
 first_of (x ∷ xs) ys count y e = (x, refl)
 
--- ---- Who holds a seat
+-- ---- Records and their rows
 
-has_record : (records : List SeatRecord) (row : Row) → Has (map seat_row records) row → (i : ℕ) × (it : SeatRecord) × (slice_get records i ≡ Some it) × (seat_row it ≡ row)
-has_record [] row h = absurd h
-has_record (x ∷ xs) row (inl same) = (0, x, refl, sym same)
-has_record (x ∷ xs) row (inr later) = let it = has_record xs row later in (suc it.0, it.1, it.2, it.3)
+module _ {A : Type 0} (row_of : A → Row) where
+  pub has_record : (records : List A) (row : Row) → Has (map row_of records) row → (i : ℕ) × (it : A) × (slice_get records i ≡ Some it) × (row_of it ≡ row)
+  has_record [] row h = absurd h
+  has_record (x ∷ xs) row (inl same) = (0, x, refl, sym same)
+  has_record (x ∷ xs) row (inr later) = let it = has_record xs row later in (suc it.0, it.1, it.2, it.3)
 
-record_has : (records : List SeatRecord) (i : ℕ) (it : SeatRecord) → slice_get records i ≡ Some it → Has (map seat_row records) (seat_row it)
-record_has [] i it e = absurd (cc)
-record_has (x ∷ xs) zero it e = inl (let same : x ≡ it = cc in ap seat_row (sym same))
-record_has (x ∷ xs) (suc i) it e = inr (record_has xs i it e)
+  pub record_has : (records : List A) (i : ℕ) (it : A) → slice_get records i ≡ Some it → Has (map row_of records) (row_of it)
+  record_has [] i it e = absurd (cc)
+  record_has (x ∷ xs) zero it e = inl (let same : x ≡ it = cc in ap row_of (sym same))
+  record_has (x ∷ xs) (suc i) it e = inr (record_has xs i it e)
 
 -- ---- The pairing
 
@@ -180,12 +181,12 @@ module _ (s : roster.State) (sound : Sound s) (db : Database) (book : IsBookOf s
         let h : HeldSeat r = record { seat = x; crew = who; held = e } in
         let row = row_of_seat id x who in
         let kept = in_found seat by_id db (map seat_row records) finds row ((book.rows seat row).1 (at, h, refl)) (passes (Text id ∷ []) row (refl, tt)) in
-        let it = has_record records row kept in
+        let it = has_record seat_row records row kept in
         absurd (none it.0 it.1 it.2 (number_is (ap (λ (v : Row). column v 1) it.3)))
 
     holder_is : (x : Seat) (o : Option (List ℕ)) → HoldsSeat (seat_number x) records o → o ≡ holder x r
     holder_is x None none = none_held x none (holder x r) refl
-    holder_is x (Some who) it = ap Some it.4 ∙ sym (held_by x it.1 (record_has records it.0 it.1 it.2) it.3)
+    holder_is x (Some who) it = ap Some it.4 ∙ sym (held_by x it.1 (record_has seat_row records it.0 it.1 it.2) it.3)
 
   module _ (periods : List PeriodRecord) (segments : List SegmentRecord) (finds : Finds (table period) by_id db (map period_row periods)) (also : Finds (table segment) by_id db (map segment_row segments)) where
     abbrev pub in_periods : (row : Row) → Has (map period_row periods) row → Has (rows_of period_table db) row × (by_id row ≡ true)

@@ -1,5 +1,6 @@
 pub mod Reads
 pub mod Plans
+pub mod Near
 pub mod Entries
 pub mod Recorded
 pub mod Members

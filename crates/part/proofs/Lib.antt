@@ -13,3 +13,8 @@ pub mod BoardTexts
 pub mod ShownAlike
 pub mod EachShown
 pub mod OneShown
+pub mod Fits
+pub mod Inside
+pub mod NewDuties
+pub mod NearAnswers
+pub mod PickedNear

@@ -186,7 +186,7 @@ agrees s key instruction none = record {
   pairings = pairing_named s key instruction;
   grounds = λ id is. retained s.grounds (is_one_of (grounds_named instruction)) id is;
   outsides = outside_named s key instruction;
-  others = λ who judged out. absurd (nobody_judged s instruction who none judged);
+  fit = λ who judged out new is. absurd (nobody_judged s instruction who none judged);
 }
 
 -- ---- The law

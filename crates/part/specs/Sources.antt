@@ -9,7 +9,8 @@ use Rattle.values.specs.Name.{name_cmp}
 use Rattle.duty.specs.Plans.{GroundPlan}
 use Rattle.command.specs.Keys.{KeyParts, key_name}
 use Rattle.command.specs.declared.instruction.Instruction.{Instruction}
-use Rattle.part.specs.Part.{holders, members_named}
+use Rattle.part.specs.Part.{grounds_named, grounds_needed, holders, is_one_of, judged_by}
+use Rattle.part.specs.Part.{members_named, outsides_named, outsides_needed}
 use Rattle.roster.specs.Holding.{IsGroundOf, IsHeldBy, IsOutsideOf}
 use Rattle.roster.specs.State.{State}
 use Rattle.roster.specs.declared.state.OutsideEntry.{OutsideEntry}
@@ -90,6 +91,18 @@ members_wanted instruction pairings grounds outsides =
     ((members_named instruction ++ flat_map (λ row. holders row.1) (fin.entries pairings))
     ++ map (λ row. row.1.crew) (fin.entries grounds))
     ++ map (λ row. row.1.crew) (fin.entries outsides)
+
+-- The second part is the first with the ground duties and outside periods that an instruction
+-- needs, if the first has those that the instruction names, and these are the members judged.
+abbrev pub HasOtherDuties : State → (judged : List (List ℕ)) → State → State → Type 0
+HasOtherDuties s judged part more = (instruction : Instruction) →
+    judged ≡ judged_by s instruction →
+    part.grounds ≡ fin.retain_keys s.grounds (is_one_of (grounds_named instruction)) →
+    part.outsides ≡ fin.retain_keys s.outsides (is_one_of (outsides_named instruction)) →
+    more ≡ record part {
+      grounds = grounds_needed s instruction;
+      outsides = outsides_needed s instruction;
+    }
 
 -- the part of a state with all bases and nothing else
 abbrev pub bases_part : State → State

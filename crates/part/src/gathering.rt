@@ -5,7 +5,7 @@ ghost use Rattle.std.specs.Prelude.{◌≡◌, ◌++◌, IfErr, OnOk};
 ghost use Rattle.command.specs.Keys.{KeyParts};
 ghost use Rattle.part.specs.Part.{NamedPart, Part};
 ghost use Rattle.roster.specs.Holding.{AreJust};
-ghost use Rattle.part.specs.Sources.{IsCauseOfGathering, IsGroundOfOne, IsHeldByOne, IsOutsideOfOne, TellsOfState, bases_part, key_part};
+ghost use Rattle.part.specs.Sources.{HasOtherDuties, IsCauseOfGathering, IsGroundOfOne, IsHeldByOne, IsOutsideOfOne, TellsOfState, bases_part, key_part};
 
 use crate::named::{ids_named, judged_in, members_wanted};
 use crate::pick::{pick_grounds, pick_members, pick_outsides, pick_pairings, pick_request};
@@ -26,7 +26,7 @@ fn add_all<T: Drop>(list: &mut Vec<T>, other: Vec<T>) -> Result<(), MemoryFault>
 }
 
 /// Reads the ids of the pairings that some members hold.
-fn held_by_one<S: Source>(
+pub(crate) fn held_by_one<S: Source>(
     alloc: Global,
     source: &mut S,
     judged: &[CrewId],
@@ -134,8 +134,29 @@ pub(crate) fn add_named<S: Source>(
     Ok(())
 }
 
+/// Adds the ground duties and the outside periods of judged members to those that an instruction names.
+pub(crate) fn add_other_duties<S: Source>(
+    alloc: Global,
+    source: &mut S,
+    judged: &[CrewId],
+    part: &mut Roster,
+) -> Result<(), S::Fault>
+    ensures told { TellsOfState S.is_clean S.shows
+        (λ s _. HasOtherDuties s judged.now part.old part.new) source.old source.new result }
+    ensures left { S.stays source.old source.new }
+    ensures caused { IfErr result
+        (IsCauseOfGathering S.fails S.Fault.from_gives source.old source.new) }
+    ensures serves { OnOk result (S.serves source.old source.new) }
+{
+    let theirs = grounds_of_one(alloc, source, judged)?;
+    pick_grounds(alloc, source, &theirs, &mut part.grounds)?;
+    let flown = outsides_of_one(alloc, source, judged)?;
+    pick_outsides(alloc, source, &flown, &mut part.outsides)?;
+    Ok(())
+}
+
 /// Adds the histories by which an instruction is judged to what it names.
-pub(crate) fn add_histories<S: Source>(
+fn add_histories<S: Source>(
     alloc: Global,
     source: &mut S,
     instruction: &Instruction,
@@ -152,10 +173,7 @@ pub(crate) fn add_histories<S: Source>(
     let judged = judged_in(alloc, instruction, &part.pairings)?;
     let held = held_by_one(alloc, source, &judged)?;
     pick_pairings(alloc, source, &held, &mut part.pairings)?;
-    let theirs = grounds_of_one(alloc, source, &judged)?;
-    pick_grounds(alloc, source, &theirs, &mut part.grounds)?;
-    let flown = outsides_of_one(alloc, source, &judged)?;
-    pick_outsides(alloc, source, &flown, &mut part.outsides)?;
+    add_other_duties(alloc, source, &judged, part)?;
     let wanted = members_wanted(
         alloc,
         instruction,

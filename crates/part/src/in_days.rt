@@ -1,5 +1,5 @@
 //! What has a minute in some days, gathered from a source. Its definition is `board_part` (`specs/Shown.antt`).
-//! Through the program: `tests/board.py`. Wrong bodies: `must-fail-more/`.
+//! Through the program: `tests/reports.py`, `tests/report_json.py`. Wrong bodies: `must-fail-more/`.
 
 ghost use Rattle.std.specs.Prelude.{◌≡◌, IfErr, IfOk, OnOk};
 ghost use Rattle.std.specs.FinMap as fin;

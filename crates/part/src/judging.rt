@@ -9,7 +9,8 @@ ghost use Rattle.part.specs.Sources.{IsCauseOfGathering, TellsOfState};
 ghost use Rattle.roster.specs.State.{State};
 ghost use Rattle.roster.specs.Steps.{answered, step_of};
 
-use crate::gathering::{add_histories, add_named, gather_bases};
+use crate::gathering::{add_named, gather_bases};
+use crate::near::add_near;
 use crate::source::Source;
 use command::{Command, Instruction, Key, Refusal};
 use roster::{LoggedCommand, Roster, Verdict};
@@ -76,7 +77,7 @@ fn settle(
 }
 
 /// Judges a command under its key, and reads no more than that takes: first what the key holds, then what the command
-/// names, and only if these don't settle the verdict the histories by which it is judged.
+/// names, and only if these don't settle the verdict the duties that its windows reach of the members whom it judges.
 pub fn judge<S: Source>(
     alloc: Global,
     source: &mut S,
@@ -100,6 +101,6 @@ pub fn judge<S: Source>(
     if let Some(verdict) = settle(alloc, &part, key, command)? {
         return Ok(verdict);
     }
-    add_histories(alloc, source, instruction, &mut part)?;
+    add_near(alloc, source, instruction, &mut part)?;
     Ok(part.step(alloc, key, command)?)
 }

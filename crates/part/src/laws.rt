@@ -1,11 +1,17 @@
 //! What holds of the parts of a state. Each of these functions does nothing; its clause is a law.
 
+ghost use Rattle.part.specs.Near.{NearAnswersCommands};
 ghost use Rattle.part.specs.Part.{AnswersAsWhole, NamesSettle, PartStaysSound};
 ghost use Rattle.part.specs.Shown.{EachIsShown, HasOneShown, PartIsShownAlike};
 
 /// A part answers its command as the whole state does: with the same verdict, reply and change.
 pub fn answers_as_whole()
     ensures { AnswersAsWhole }
+{}
+
+/// The near part of a sound state answers each command as the whole state does: with the same verdict, reply and change.
+pub fn near_answers_commands()
+    ensures { NearAnswersCommands }
 {}
 
 /// A verdict by what a command names, if no history can change it, is that of the whole state.

@@ -7,6 +7,7 @@ mod in_days;
 mod judging;
 pub mod laws;
 mod named;
+mod near;
 mod pick;
 mod showing;
 mod source;

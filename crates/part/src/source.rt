@@ -6,11 +6,13 @@ ghost use Rattle.command.specs.Keys.{key_name};
 ghost use Rattle.roster.specs.State.{State};
 ghost use Rattle.roster.specs.Holding.{IsHeldBy, IsGroundOf, IsOutsideOf, AreJust};
 ghost use Rattle.roster.specs.Refusals.{is_member, is_pairing};
+ghost use Rattle.roster.specs.Near.{is_near};
 ghost use Rattle.part.specs.Shown.{is_under};
-ghost use Rattle.part.specs.Sources.{TellsOfState};
+ghost use Rattle.part.specs.Sources.{TellsOfState, if_passes};
+ghost use Rattle.roster.specs.Sound.{Sound};
 
 use command::{Key, Member};
-use duty::{CrewId, Ground, GroundId, OutsideId, PairingId};
+use duty::{CrewId, Ground, GroundId, OutsideId, PairingId, Span};
 use request::RequestNumber;
 use roster::{Bases, DutyId, ExceedanceId, LoggedCommand, OutsideEntry, PairingEntry};
 use std::alloc::Global;
@@ -26,6 +28,8 @@ pub trait Source {
 
     // whether it shows this state
     ghost shows: { Self → State → Type 0 };
+
+    ghost shown_is_sound: { (x : Self) (s : State) → shows x s → Sound s };
 
     // what any call leaves of it: nothing is changed
     ghost stays: { Self → Self → Type 0 };
@@ -99,6 +103,20 @@ pub trait Source {
     ) -> Result<Option<PairingEntry>, Self::Fault>
         ensures told { TellsOfState is_clean shows
             (λ s found. found ≡ fin.get s.pairings id.now) self.old self.new result }
+        ensures left { stays self.old self.new }
+        ensures caused { IfErr result (fails self.old self.new) }
+        ensures serves { OnOk result (serves self.old self.new) };
+
+    /// Reads the pairing of an id, if a window may have a minute of one of its periods and of one of these spans.
+    fn pairing_near(
+        &mut self,
+        alloc: Global,
+        id: &PairingId,
+        spans: &[Span],
+    ) -> Result<Option<PairingEntry>, Self::Fault>
+        ensures told { TellsOfState is_clean shows
+            (λ s found. found ≡ if_passes (is_near spans.now) (fin.get s.pairings id.now))
+            self.old self.new result }
         ensures left { stays self.old self.new }
         ensures caused { IfErr result (fails self.old self.new) }
         ensures serves { OnOk result (serves self.old self.new) };

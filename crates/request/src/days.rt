@@ -1,5 +1,5 @@
 //! Whole days, of which a report is asked.
-//! Texts that aren't days, and too many days: `tests/board.py`. Wrong bodies: `must-fail-more/`.
+//! Texts that aren't days, and too many days: `tests/program.sh`. Wrong bodies: `must-fail-more/`.
 ghost use Rattle.std.specs.Prelude.{◌≡◌, ◌≤◌, ◌-◌, IfSome};
 ghost use Rattle.request.specs.Days as spec;
 

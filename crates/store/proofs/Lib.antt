@@ -5,3 +5,4 @@ pub mod StaysTyped
 pub mod TypedRows
 pub mod Loads
 pub mod Parting
+pub mod Nearness

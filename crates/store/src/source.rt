@@ -2,10 +2,11 @@
 
 use crate::store::Store;
 use command::{Key, Member};
-use duty::{CrewId, Ground, GroundId, OutsideId, PairingId};
+use duty::{CrewId, Ground, GroundId, OutsideId, PairingId, Span};
 use lookup::{
     bases_at, crew_ids_at, exceedances_at, ground_at, grounds_held_at, member_at, outside_at,
-    outsides_held_at, pairing_at, pairing_ids_at, pairings_held_at, request_at, requests_at,
+    outsides_held_at, pairing_at, pairing_ids_at, pairing_near_at, pairings_held_at, request_at,
+    requests_at,
 };
 use part::Source;
 use request::RequestNumber;
@@ -28,6 +29,8 @@ impl<S: Alter> Source for Store<S> {
     ghost is_clean = { λ t. HasCleanDisk (state S.Store t) };
 
     ghost shows = { λ t s. Shows (state S.Store t) s };
+
+    ghost shown_is_sound = { λ t s shown. shown.sound };
 
     ghost stays = { λ a b. ChangesNothing (state S.Store a) (state S.Store b) };
 
@@ -80,6 +83,15 @@ impl<S: Alter> Source for Store<S> {
         id: &PairingId,
     ) -> Result<Option<PairingEntry>, StoreFault> {
         pairing_at(alloc, &mut self.conn, id)
+    }
+
+    fn pairing_near(
+        &mut self,
+        alloc: Global,
+        id: &PairingId,
+        spans: &[Span],
+    ) -> Result<Option<PairingEntry>, StoreFault> {
+        pairing_near_at(alloc, &mut self.conn, id, spans)
     }
 
     fn ground(&mut self, alloc: Global, id: &GroundId) -> Result<Option<Ground>, StoreFault> {

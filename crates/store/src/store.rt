@@ -150,8 +150,8 @@ impl<S: Alter> Store<S> {
         verdict
     }
 
-    /// Reads by key a roster with what the text of a member, of a member's limits, of a pairing, of the exceedances or of a
-    /// list needs, in no transaction, and changes nothing. A store's fault is 90, out of memory 91.
+    /// Reads by key a roster with what the text of a member, of a member's limits, of a pairing, of the exceedances, of a list, of
+    /// a board or of a request needs, in no transaction, and changes nothing. A store's fault is 90, out of memory 91.
     pub fn read_shown(&mut self, alloc: Global, what: &Show) -> Result<Roster, StoreFault>
         ensures part { (s : State) → Shows (state S.Store self.old) s
             → HasCleanDisk (state S.Store self.new) → IfOk result (λ r. r ≡ shown_part s what.now) }

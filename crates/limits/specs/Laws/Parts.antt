@@ -20,19 +20,20 @@ abbrev pub IsUnion : (ℤ → Bool) → (ℤ → Bool) → (ℤ → Bool) → Ty
 IsUnion all others added = (i : ℤ) → all i ≡ true → (others i ≡ true) ⊎ (added i ≡ true)
 
 -- a duty of the history that holds the minute
-holder : (kind : Kind) (history : List DutyInForce) (i : ℤ) → minutes_in kind history i ≡ true →
+pub from_minutes : (kind : Kind) (history : List DutyInForce) (i : ℤ) →
+    minutes_in kind history i ≡ true →
     (duty : DutyInForce) × Contains history duty × (list_any (covers i) (spans_of kind duty) ≡ true)
-holder kind history i is =
+from_minutes kind history i is =
     let test : DutyInForce → Bool = λ d. list_any (covers i) (spans_of kind d) in
     let a = Any-from_list_any test history
     (sym (list_any-flat_map (covers i) (spans_of kind) history) ∙ is) in
     (a.1, (a.0, a.2, a.3), a.4)
 
 -- what a duty of the history holds is a minute of the history
-held : (kind : Kind) (history : List DutyInForce) (i : ℤ) (duty : DutyInForce) →
+pub in_minutes : (kind : Kind) (history : List DutyInForce) (i : ℤ) (duty : DutyInForce) →
     Contains history duty →
     list_any (covers i) (spans_of kind duty) ≡ true → minutes_in kind history i ≡ true
-held kind history i duty in' is =
+in_minutes kind history i duty in' is =
     let test : DutyInForce → Bool = λ d. list_any (covers i) (spans_of kind d) in
     list_any-flat_map (covers i) (spans_of kind) history ∙
     list_any_at test history in'.0 duty in'.1 (ap test in'.2 ∙ is)
@@ -41,22 +42,22 @@ held kind history i duty in' is =
 pub part-minutes : (kind : Kind) (fewer duties : List DutyInForce) → IsWithin fewer duties →
     IsPart (minutes_in kind fewer) (minutes_in kind duties)
 part-minutes kind fewer duties within i is =
-    let h = holder kind fewer i is in
-    held kind duties i h.0 (within h.0 h.1) h.2
+    let h = from_minutes kind fewer i is in
+    in_minutes kind duties i h.0 (within h.0 h.1) h.2
 
 -- Each minute of all duties is a minute of the other duties or of the added duties.
 pub union-minutes : (kind : Kind) (all others added : List DutyInForce) →
     IsJoined all others added →
     IsUnion (minutes_in kind all) (minutes_in kind others) (minutes_in kind added)
 union-minutes kind all others added joined i is =
-    let h = holder kind all i is in
+    let h = from_minutes kind all i is in
     elim (joined.0 h.0 h.1) [
-      | inl other ↦ inl (held kind others i h.0 other h.2)
-      | inr new ↦ inr (held kind added i h.0 new h.2)
+      | inl other ↦ inl (in_minutes kind others i h.0 other h.2)
+      | inr new ↦ inr (in_minutes kind added i h.0 new h.2)
     ]
 
 -- a truth that follows from another counts no less
-one_if-part : (a b : Bool) → (a ≡ true → b ≡ true) → one_if a ≤ one_if b
+pub one_if-part : (a b : Bool) → (a ≡ true → b ≡ true) → one_if a ≤ one_if b
 one_if-part false b h = omega arith
 one_if-part true b h = rw (h refl) (omega arith)
 

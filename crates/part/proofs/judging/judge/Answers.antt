@@ -2,10 +2,11 @@ use Rattle.std.proofs.Common.{◌∙◌, IsTrue, Some, ap, subst, sym}
 use Rattle.roster.specs.State.{State}
 use Rattle.roster.specs.Steps.{step_of}
 use Rattle.roster.specs.declared.change.Verdict.{Verdict}
-use Rattle.part.specs.Part.{NamedPart, Part, is_settled}
+use Rattle.part.specs.Near.{NearPart}
+use Rattle.part.specs.Part.{NamedPart, is_settled}
 use Rattle.std.proofs.lemmas.Result.{err_from_is_err_and}
-use Rattle.part.proofs.Answers.{answers_as_whole}
 use Rattle.part.proofs.Causes.{caused_then}
+use Rattle.part.proofs.NearAnswers.{near_answers_commands}
 use Rattle.part.proofs.Picked.{bare_part}
 use Rattle.part.proofs.Settled.{by_key, names_settle}
 use Rattle.part.proofs.judging.judge.Goals as goal
@@ -22,19 +23,22 @@ returns-in-Some-clause-told g c = (
 -- what is named doesn't settle the verdict
 pub returns-clause-told : goal.returns-clause-told
 returns-clause-told g c = (
-  λ clean. c.request.ensures.told.0 (c.gather_bases.ensures.told.0 (c.add_named.ensures.told.0 (c.add_histories.ensures.told.0 clean))),
+  λ clean. c.request.ensures.told.0 (c.gather_bases.ensures.told.0 (c.add_named.ensures.told.0 (c.add_near.ensures.told.0 clean))),
   λ clean s shows.
-      let third = c.add_histories.ensures.told.0 clean in
+      let third = c.add_near.ensures.told.0 clean in
       let second = c.add_named.ensures.told.0 third in
       let first = c.gather_bases.ensures.told.0 second in
       let held = c.in_ok-kept.ensures.told.1 first s shows in
       let bases = c.in_ok-part.ensures.told.1 second s held.0 in
       let named = c.in_ok-add_named.ensures.told.1 third s bases.0 in
-      let whole = c.in_ok-add_histories.ensures.told.1 clean s named.0 in
+      let whole = c.in_ok-add_near.ensures.told.1 clean s named.0 in
       let key = c.args.key in
       let command = c.args.command.now in
-      let part = whole.1 key (named.1 key (bare_part s key _ (sym held.1 ∙ c.in_default.is) bases.1)) in
-      (whole.0, c.in_ok-step.ensures.verdict ∙ ap (λ (x : State). step_of x key command) (part ∙ ap (Part s key) c.instruction-instruction.ensures.instruction) ∙ answers_as_whole s key command),
+      let part = whole.1 key (named.1 key (bare_part s key _ (sym held.1 ∙ c.in_default.is) bases.1)) in (
+        whole.0,
+        c.in_ok-step.ensures.verdict ∙ ap (λ (x : State). step_of x key command) (part ∙ ap (NearPart s key) c.instruction-instruction.ensures.instruction)
+            ∙ near_answers_commands s key command (g.S.Source.shown_is_sound c.args.source.now s shows) c.instruction-instruction.ensures.made,
+      ),
 )
 
 -- what is named settles it
@@ -72,14 +76,14 @@ returns-in_err-verdict-clause-left g c = g.S.Source.and_then _ _ _ c.request.ens
 pub returns-in-Some-2-clause-left : goal.returns-in-Some-2-clause-left
 returns-in-Some-2-clause-left g c = g.S.Source.and_then _ _ _ c.request.ensures.left (g.S.Source.and_then _ _ _ c.gather_bases.ensures.left c.add_named.ensures.left)
 
-pub returns-in_err-add_histories-clause-left : goal.returns-in_err-add_histories-clause-left
-returns-in_err-add_histories-clause-left g c = g.S.Source.and_then _ _ _ c.request.ensures.left (g.S.Source.and_then _ _ _ c.gather_bases.ensures.left (g.S.Source.and_then _ _ _ c.add_named.ensures.left c.add_histories.ensures.left))
+pub returns-in_err-add_near-clause-left : goal.returns-in_err-add_near-clause-left
+returns-in_err-add_near-clause-left g c = g.S.Source.and_then _ _ _ c.request.ensures.left (g.S.Source.and_then _ _ _ c.gather_bases.ensures.left (g.S.Source.and_then _ _ _ c.add_named.ensures.left c.add_near.ensures.left))
 
 pub returns-in_err-step-clause-left : goal.returns-in_err-step-clause-left
-returns-in_err-step-clause-left g c = g.S.Source.and_then _ _ _ c.request.ensures.left (g.S.Source.and_then _ _ _ c.gather_bases.ensures.left (g.S.Source.and_then _ _ _ c.add_named.ensures.left c.add_histories.ensures.left))
+returns-in_err-step-clause-left g c = g.S.Source.and_then _ _ _ c.request.ensures.left (g.S.Source.and_then _ _ _ c.gather_bases.ensures.left (g.S.Source.and_then _ _ _ c.add_named.ensures.left c.add_near.ensures.left))
 
 pub returns-clause-left : goal.returns-clause-left
-returns-clause-left g c = g.S.Source.and_then _ _ _ c.request.ensures.left (g.S.Source.and_then _ _ _ c.gather_bases.ensures.left (g.S.Source.and_then _ _ _ c.add_named.ensures.left c.add_histories.ensures.left))
+returns-clause-left g c = g.S.Source.and_then _ _ _ c.request.ensures.left (g.S.Source.and_then _ _ _ c.gather_bases.ensures.left (g.S.Source.and_then _ _ _ c.add_named.ensures.left c.add_near.ensures.left))
 
 pub returns-in-Some-2-clause-serves : goal.returns-in-Some-2-clause-serves
 returns-in-Some-2-clause-serves g c = g.S.Source.serves_then _ _ _ c.in_ok-kept.ensures.serves (g.S.Source.serves_then _ _ _ c.in_ok-part.ensures.serves c.in_ok-add_named.ensures.serves)
@@ -88,17 +92,17 @@ pub returns-in-Some-2-clause-there : goal.returns-in-Some-2-clause-there
 returns-in-Some-2-clause-there g c = g.S.Source.still_there _ _ c.in_ok-add_named.ensures.serves c.in_ok-part.ensures.there
 
 pub returns-clause-serves : goal.returns-clause-serves
-returns-clause-serves g c = g.S.Source.serves_then _ _ _ c.in_ok-kept.ensures.serves (g.S.Source.serves_then _ _ _ c.in_ok-part.ensures.serves (g.S.Source.serves_then _ _ _ c.in_ok-add_named.ensures.serves c.in_ok-add_histories.ensures.serves))
+returns-clause-serves g c = g.S.Source.serves_then _ _ _ c.in_ok-kept.ensures.serves (g.S.Source.serves_then _ _ _ c.in_ok-part.ensures.serves (g.S.Source.serves_then _ _ _ c.in_ok-add_named.ensures.serves c.in_ok-add_near.ensures.serves))
 
 pub returns-clause-there : goal.returns-clause-there
-returns-clause-there g c = g.S.Source.still_there _ _ (g.S.Source.serves_then _ _ _ c.in_ok-add_named.ensures.serves c.in_ok-add_histories.ensures.serves) c.in_ok-part.ensures.there
+returns-clause-there g c = g.S.Source.still_there _ _ (g.S.Source.serves_then _ _ _ c.in_ok-add_named.ensures.serves c.in_ok-add_near.ensures.serves) c.in_ok-part.ensures.there
 
 pub returns-in_err-add_named-clause-caused : goal.returns-in_err-add_named-clause-caused
 returns-in_err-add_named-clause-caused g c =
     let p = err_from_is_err_and c.from_residual-in_err-add_named.result c.from_residual-in_err-add_named.ensures.1 in
     rw (p.1, p.2) (caused_then g.S.Source.fails g.S.Fault.From.from_gives g.S.Source.stays g.S.Source.fails_then _ _ _ _ (g.S.Source.and_then _ _ _ c.request.ensures.left c.gather_bases.ensures.left) c.add_named.ensures.left c.in_err-add_named.ensures.caused)
 
-pub returns-in_err-add_histories-clause-caused : goal.returns-in_err-add_histories-clause-caused
-returns-in_err-add_histories-clause-caused g c =
-    let p = err_from_is_err_and c.from_residual-in_err-add_histories.result c.from_residual-in_err-add_histories.ensures.1 in
-    rw (p.1, p.2) (caused_then g.S.Source.fails g.S.Fault.From.from_gives g.S.Source.stays g.S.Source.fails_then _ _ _ _ (g.S.Source.and_then _ _ _ c.request.ensures.left (g.S.Source.and_then _ _ _ c.gather_bases.ensures.left c.add_named.ensures.left)) c.add_histories.ensures.left c.in_err-add_histories.ensures.caused)
+pub returns-in_err-add_near-clause-caused : goal.returns-in_err-add_near-clause-caused
+returns-in_err-add_near-clause-caused g c =
+    let p = err_from_is_err_and c.from_residual-in_err-add_near.result c.from_residual-in_err-add_near.ensures.1 in
+    rw (p.1, p.2) (caused_then g.S.Source.fails g.S.Fault.From.from_gives g.S.Source.stays g.S.Source.fails_then _ _ _ _ (g.S.Source.and_then _ _ _ c.request.ensures.left (g.S.Source.and_then _ _ _ c.gather_bases.ensures.left c.add_named.ensures.left)) c.add_near.ensures.left c.in_err-add_near.ensures.caused)

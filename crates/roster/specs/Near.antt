@@ -1,0 +1,16 @@
+-- Which pairings are near some spans, by the times of their periods.
+use Rattle.std.specs.Prelude.{Bool, List, map}
+use Rattle.std.specs.List.{list_any}
+use Rattle.duty.specs.declared.span.Span.{Span}
+use Rattle.limits.specs.Reach.{is_reached}
+use Rattle.roster.specs.Pairings.{periods_in_force}
+use Rattle.roster.specs.declared.state.PairingEntry.{PairingEntry}
+
+-- the times of a pairing's periods, from report to release as they were flown or else planned
+abbrev pub period_times : PairingEntry → List Span
+period_times r = map (λ f. record { from = f.report; to = f.release }) (periods_in_force r)
+
+-- a pairing is near some spans if a window may have a minute of one of them and of one of the
+-- pairing's periods
+abbrev pub is_near : List Span → PairingEntry → Bool
+is_near spans r = list_any (is_reached spans) (period_times r)
