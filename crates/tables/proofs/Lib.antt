@@ -18,6 +18,8 @@ pub mod Selecting
 pub mod Greatest
 pub mod Tallying
 pub mod TallyMeant
+pub mod HeldMeant
+pub mod HeldReads
 pub mod LoadingLemmas
 pub mod KeyLemmas
 pub mod Holding

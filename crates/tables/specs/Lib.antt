@@ -2,6 +2,7 @@ pub mod Schema
 pub mod Rows
 pub mod Records
 pub mod Tally
+pub mod Held
 pub mod Faults
 pub mod Declarations
 pub mod Calls
