@@ -71,7 +71,7 @@ module _ {V : Type 0} (test : V → Bool) (m : fin.FinMap name_cmp V) where
 
   -- ---- The loop
 
-  pub picked_one_more : (ids : List (List ℕ)) (p : fin.FinMap name_cmp V) (id : List ℕ)
+  picked_one_more : (ids : List (List ℕ)) (p : fin.FinMap name_cmp V) (id : List ℕ)
       → pick_where test m (picked_where test m p ids) id ≡ picked_where test m p (ids ++ id ∷ [])
   picked_one_more [] p id = refl
   picked_one_more (x ∷ xs) p id = picked_one_more xs (pick_where test m p x) id

@@ -11,7 +11,9 @@ use Rattle.command.specs.Keys.{KeyParts, key_name}
 use Rattle.command.specs.declared.instruction.Instruction.{Instruction}
 use Rattle.part.specs.Part.{grounds_named, grounds_needed, holders, is_one_of, judged_by}
 use Rattle.part.specs.Part.{members_named, outsides_named, outsides_needed}
+use Rattle.duty.specs.declared.span.Span.{Span}
 use Rattle.roster.specs.Holding.{IsGroundOf, IsHeldBy, IsOutsideOf}
+use Rattle.roster.specs.Near.{IsHeldNear}
 use Rattle.roster.specs.State.{State}
 use Rattle.roster.specs.declared.state.OutsideEntry.{OutsideEntry}
 use Rattle.roster.specs.declared.state.PairingEntry.{PairingEntry}
@@ -73,6 +75,10 @@ IsPartOf {V} part whole =
 -- one of these members holds a seat of the pairing with this id
 abbrev pub IsHeldByOne : State → List (List ℕ) → List ℕ → Type 0
 IsHeldByOne s names id = (who : List ℕ) × Contains names who × IsHeldBy s who id
+
+-- one of these members holds a seat of the pairing with this id, which is near some spans
+abbrev pub IsNearOfOne : State → List Span → List (List ℕ) → List ℕ → Type 0
+IsNearOfOne s spans names id = (who : List ℕ) × Contains names who × IsHeldNear s spans who id
 
 -- the ground duty with this id is of one of these members
 abbrev pub IsGroundOfOne : State → List (List ℕ) → List ℕ → Type 0

@@ -17,7 +17,7 @@ use std::alloc::Global;
 use values::{MemoryFault, OrdMap};
 
 /// Adds all values of a list to another.
-fn add_all<T: Drop>(list: &mut Vec<T>, other: Vec<T>) -> Result<(), MemoryFault>
+pub(crate) fn add_all<T: Drop>(list: &mut Vec<T>, other: Vec<T>) -> Result<(), MemoryFault>
     ensures { OnOk result (list.new.items ≡ list.old.items ++ other.items) }
 {
     let mut other = other;
@@ -26,7 +26,7 @@ fn add_all<T: Drop>(list: &mut Vec<T>, other: Vec<T>) -> Result<(), MemoryFault>
 }
 
 /// Reads the ids of the pairings that some members hold.
-pub(crate) fn held_by_one<S: Source>(
+fn held_by_one<S: Source>(
     alloc: Global,
     source: &mut S,
     judged: &[CrewId],

@@ -6,16 +6,17 @@ ghost use Rattle.std.specs.FinMap as fin;
 ghost use Rattle.std.specs.Option.{option_map_or};
 ghost use Rattle.command.specs.Keys.{KeyParts};
 ghost use Rattle.part.specs.Near.{NearPart, new_times_in};
-ghost use Rattle.roster.specs.Near.{is_near, period_times};
+ghost use Rattle.roster.specs.Holding.{AreJust};
+ghost use Rattle.roster.specs.Near.{period_times};
 ghost use Rattle.part.specs.Part.{NamedPart};
-ghost use Rattle.part.specs.Sources.{IsCauseOfGathering, IsPartOf, TellsOfState, picked_where};
+ghost use Rattle.part.specs.Sources.{IsCauseOfGathering, IsNearOfOne, TellsOfState};
 
-use crate::gathering::{add_other_duties, held_by_one};
+use crate::gathering::{add_all, add_other_duties};
 use crate::named::judged_in;
-use crate::pick::{pick_members, put_found};
+use crate::pick::{pick_members, pick_pairings};
 use crate::source::Source;
 use command::Instruction;
-use duty::{Fdp, PairingId, Span};
+use duty::{CrewId, Fdp, PairingId, Span};
 use roster::{PairingEntry, Roster};
 use std::alloc::Global;
 use values::{MemoryFault, OrdMap};
@@ -88,30 +89,27 @@ fn new_times(
     Ok(spans)
 }
 
-/// Sets what the source has under these ids and is near some spans. What is there already isn't read again.
-fn pick_near<S: Source>(
+/// Reads the ids of the pairings that some members hold and that are near some spans.
+fn near_of_one<S: Source>(
     alloc: Global,
     source: &mut S,
-    ids: &[PairingId],
+    judged: &[CrewId],
     spans: &[Span],
-    pairings: &mut OrdMap<PairingId, PairingEntry>,
-) -> Result<(), S::Fault>
-    ensures told { TellsOfState S.is_clean S.shows (λ s _. IsPartOf pairings.old s.pairings
-        → pairings.new ≡ picked_where (is_near spans.now) s.pairings pairings.old ids.now)
+) -> Result<Vec<PairingId>, S::Fault>
+    ensures told { TellsOfState S.is_clean S.shows
+        (λ s found. AreJust (IsNearOfOne s spans.now judged.now) found.items)
         source.old source.new result }
     ensures left { S.stays source.old source.new }
     ensures caused { IfErr result
         (IsCauseOfGathering S.fails S.Fault.from_gives source.old source.new) }
     ensures serves { OnOk result (S.serves source.old source.new) }
 {
-    for id in ids {
-        if pairings.contains(id) {
-            continue;
-        }
-        let found = source.pairing_near(alloc, id, spans)?;
-        put_found(alloc, pairings, id, found)?;
+    let mut all = Vec::new(alloc);
+    for who in judged {
+        let near = source.pairings_near(alloc, who, spans)?;
+        add_all(&mut all, near)?;
     }
-    Ok(())
+    Ok(all)
 }
 
 /// Adds to what an instruction names what else it is judged by.
@@ -131,8 +129,8 @@ pub(crate) fn add_near<S: Source>(
 {
     let judged = judged_in(alloc, instruction, &part.pairings)?;
     let spans = new_times(alloc, instruction, &part.pairings)?;
-    let held = held_by_one(alloc, source, &judged)?;
-    pick_near(alloc, source, &held, &spans, &mut part.pairings)?;
+    let near = near_of_one(alloc, source, &judged, &spans)?;
+    pick_pairings(alloc, source, &near, &mut part.pairings)?;
     add_other_duties(alloc, source, &judged, part)?;
     pick_members(alloc, source, &judged, &mut part.crew)?;
     Ok(())

@@ -6,9 +6,9 @@ ghost use Rattle.command.specs.Keys.{key_name};
 ghost use Rattle.roster.specs.State.{State};
 ghost use Rattle.roster.specs.Holding.{IsHeldBy, IsGroundOf, IsOutsideOf, AreJust};
 ghost use Rattle.roster.specs.Refusals.{is_member, is_pairing};
-ghost use Rattle.roster.specs.Near.{is_near};
+ghost use Rattle.roster.specs.Near.{IsHeldNear};
 ghost use Rattle.part.specs.Shown.{is_under};
-ghost use Rattle.part.specs.Sources.{TellsOfState, if_passes};
+ghost use Rattle.part.specs.Sources.{TellsOfState};
 ghost use Rattle.roster.specs.Sound.{Sound};
 
 use command::{Key, Member};
@@ -107,20 +107,6 @@ pub trait Source {
         ensures caused { IfErr result (fails self.old self.new) }
         ensures serves { OnOk result (serves self.old self.new) };
 
-    /// Reads the pairing of an id, if a window may have a minute of one of its periods and of one of these spans.
-    fn pairing_near(
-        &mut self,
-        alloc: Global,
-        id: &PairingId,
-        spans: &[Span],
-    ) -> Result<Option<PairingEntry>, Self::Fault>
-        ensures told { TellsOfState is_clean shows
-            (λ s found. found ≡ if_passes (is_near spans.now) (fin.get s.pairings id.now))
-            self.old self.new result }
-        ensures left { stays self.old self.new }
-        ensures caused { IfErr result (fails self.old self.new) }
-        ensures serves { OnOk result (serves self.old self.new) };
-
     /// Reads the ground duty of an id.
     fn ground(&mut self, alloc: Global, id: &GroundId) -> Result<Option<Ground>, Self::Fault>
         ensures told { TellsOfState is_clean shows
@@ -145,6 +131,21 @@ pub trait Source {
     fn pairings_of(&mut self, alloc: Global, who: &CrewId) -> Result<Vec<PairingId>, Self::Fault>
         ensures told { TellsOfState is_clean shows
             (λ s found. AreJust (IsHeldBy s who.now) found.items) self.old self.new result }
+        ensures left { stays self.old self.new }
+        ensures caused { IfErr result (fails self.old self.new) }
+        ensures serves { OnOk result (serves self.old self.new) };
+
+    /// Reads the ids of the pairings that a member holds and that are near some spans, in any order: a window may have a minute
+    /// of one of the spans and of one of the pairing's periods.
+    fn pairings_near(
+        &mut self,
+        alloc: Global,
+        who: &CrewId,
+        spans: &[Span],
+    ) -> Result<Vec<PairingId>, Self::Fault>
+        ensures told { TellsOfState is_clean shows
+            (λ s found. AreJust (IsHeldNear s spans.now who.now) found.items)
+            self.old self.new result }
         ensures left { stays self.old self.new }
         ensures caused { IfErr result (fails self.old self.new) }
         ensures serves { OnOk result (serves self.old self.new) };

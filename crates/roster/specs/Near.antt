@@ -1,9 +1,11 @@
 -- Which pairings are near some spans, by the times of their periods.
-use Rattle.std.specs.Prelude.{Bool, List, map}
+use Rattle.std.specs.Prelude.{◌≡◌, ℕ, Bool, true, List, map, Some}
+use Rattle.std.specs.FinMap as fin
 use Rattle.std.specs.List.{list_any}
 use Rattle.duty.specs.declared.span.Span.{Span}
 use Rattle.limits.specs.Reach.{is_reached}
-use Rattle.roster.specs.Pairings.{periods_in_force}
+use Rattle.roster.specs.Pairings.{holds, periods_in_force}
+use Rattle.roster.specs.State.{State}
 use Rattle.roster.specs.declared.state.PairingEntry.{PairingEntry}
 
 -- the times of a pairing's periods, from report to release as they were flown or else planned
@@ -14,3 +16,9 @@ period_times r = map (λ f. record { from = f.report; to = f.release }) (periods
 -- pairing's periods
 abbrev pub is_near : List Span → PairingEntry → Bool
 is_near spans r = list_any (is_reached spans) (period_times r)
+
+-- the member holds the pairing of this id, and it is near some spans
+abbrev pub IsHeldNear : State → List Span → List ℕ → List ℕ → Type 0
+IsHeldNear s spans who id =
+    (r : PairingEntry) × (fin.get s.pairings id ≡ Some r) × (holds who r ≡ true)
+    × (is_near spans r ≡ true)

@@ -19,8 +19,8 @@ abbrev pub is_of_seat : List ℕ → Row → Row → Bool
 is_of_seat crew seat period =
     equals (column period 0) (column seat 0) && equals (column seat 2) (Text crew)
 
--- a read finds just the periods of each seat that the member holds, each as often as the tables have
--- both, in any order
+-- a read finds just the periods of each seat that the member holds, each as often as the tables
+-- have both, in any order
 abbrev pub FindsHeld : List ℕ → Database → List Row → Type 0
 FindsHeld crew db found =
     IsPermutation
