@@ -57,11 +57,11 @@ of_held who (Some other) is = ap Some ((bytes_eq-Decides other who).0 is)
 is_held : (who : List ℕ) (o : Option (List ℕ)) → o ≡ Some who → is_held_by who o ≡ true
 is_held who o is = ap (is_held_by who) is ∙ (bytes_eq-Decides who who).1 refl
 
-seat_held : (who : List ℕ) (r : PairingEntry) (x : Seat) → holder x r ≡ Some who → holds who r ≡ true
+pub seat_held : (who : List ℕ) (r : PairingEntry) (x : Seat) → holder x r ≡ Some who → holds who r ≡ true
 seat_held who r Captain held = ap (λ b. b || is_held_by who r.first_officer) (is_held who r.captain held)
 seat_held who r FirstOfficer held = elim (is_held_by who r.captain) as (λ b. (b || is_held_by who r.first_officer) ≡ true) [ true ↦ refl | false ↦ is_held who r.first_officer held ]
 
-some_seat : (who : List ℕ) (r : PairingEntry) → holds who r ≡ true → (x : Seat) × (holder x r ≡ Some who)
+pub some_seat : (who : List ℕ) (r : PairingEntry) → holds who r ≡ true → (x : Seat) × (holder x r ≡ Some who)
 some_seat who r is = elim (cases_Bool (is_held_by who r.captain)) [
   | inl captain ↦ (Captain, of_held who r.captain captain)
   | inr other ↦ (FirstOfficer, of_held who r.first_officer (ap (λ b. b || is_held_by who r.first_officer) (sym other) ∙ is))

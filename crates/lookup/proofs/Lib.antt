@@ -6,7 +6,6 @@ pub mod OnePairing
 pub mod HeldLemmas
 pub mod PlanLemmas
 pub mod PlanReads
-pub mod NearLemmas
 pub mod MemberReads
 pub mod MemberLemmas
 pub mod OutsideReads
@@ -19,3 +18,5 @@ pub mod Changes
 pub mod IdLemmas
 pub mod RequestLemmas
 pub mod CountLemmas
+pub mod NearLemmas
+pub mod NearReads

@@ -1,47 +1,47 @@
--- The records of a pairing's periods are near some spans if and only if the pairing is.
-use Rattle.std.proofs.Common.{◌≡◌, refl, sym, ap, subst, ◌∙◌, ℕ, zero, suc, Bool, true, false, ◌||◌, if◌then◌else◌, List, [], ◌∷◌, map, Option, Some, None, slice_get, Result, Ok, Err}
+-- The near periods among those of a member's pairings are of just the pairings that are near.
+use Rattle.std.proofs.Common.{◌≡◌, inl, inr, refl, sym, ap, subst, subst₂, ◌∙◌, ℕ, zero, suc, Bool, true, false, ◌||◌, List, [], ◌∷◌, ◌++◌, flat_map, filter, map, Contains, Option, Some, None, slice_get}
 use Rattle.std.specs.FinMap as fin
 use Rattle.std.specs.List.{list_any, zip}
 use Rattle.std.specs.Option.{option_map}
+use Rattle.std.specs.Ordering.{is_eq}
 use Rattle.std.specs.Prelude.{unwrap_or}
+use Rattle.std.proofs.lemmas.Bool.{and_from, and_parts, cases_Bool}
+use Rattle.std.proofs.lemmas.Cmp.{tied_itself}
+use Rattle.std.proofs.lemmas.List.Sorted.{IsPermutation-sym}
 use Rattle.sqlite_value.specs.declared.value.Value.TheVariants.{Text}
-use Rattle.sqlite_value.specs.Order.{Row, column}
+use Rattle.sqlite_value.specs.Order.{Row, column, value_cmp}
+use Rattle.sqlite_value.proofs.OrderLemmas.{value_cmp_total}
+use Rattle.sqlite_rules.specs.Lists.{Has}
+use Rattle.sqlite_rules.proofs.ListLemmas.{has_either, has_left, has_right}
 use Rattle.sqlite.specs.Effect.{Database}
-use Rattle.sqlite.specs.State.{State, HasCleanDisk, IsUnchanged}
 use Rattle.duty.specs.Plans.{ActualTimes}
 use Rattle.duty.specs.declared.fdp.Fdp.{Fdp}
 use Rattle.duty.specs.declared.span.Span.{Span}
 use Rattle.limits.specs.Reach.{is_reached}
-use Rattle.roster.specs.Pairings.{flown, periods_in_force}
+use Rattle.roster.specs.Holding.{AreJust}
+use Rattle.roster.specs.Near.{IsHeldNear, is_near, period_times}
+use Rattle.roster.specs.Pairings.{flown, holds, periods_in_force}
 use Rattle.roster.specs.State as roster
 use Rattle.roster.specs.declared.state.PairingEntry.{PairingEntry}
+use Rattle.roster.proofs.Members.{first_or_later, is_first, is_later, none_in}
+use Rattle.tables.specs.Held.{FindsHeld, equals, is_of_seat}
 use Rattle.tables.specs.Records.{period_row}
-use Rattle.tables.specs.Rows.{Finds, begins_with}
+use Rattle.tables.specs.Rows.{rows_of}
 use Rattle.tables.specs.declared.period.PeriodRecord.{PeriodRecord}
-use Rattle.state_rows.specs.Rows.{table, period, outside_segment, row_of_period, At, PeriodOf}
+use Rattle.tables.proofs.Answering.{has_permuted}
+use Rattle.state_rows.specs.Rows.{table, period, seat, outside_segment, row_of_period, row_of_seat, At, HeldSeat, PeriodOf}
 use Rattle.state_rows.specs.Kept.{IsBookOf}
-use Rattle.state_rows.specs.declared.fault.StoreFault.{StoreFault}
 use Rattle.state_rows.proofs.Lists.{one_value}
-use Rattle.state_rows.proofs.Tests.{found, passes}
 use Rattle.state_rows.proofs.Values.{number_is, numbers_same, text_is}
 use Rattle.entries.specs.Right.{AreRight, IsInstantIfAny}
 use Rattle.stored_json.specs.Instants.{is_instant}
-use Rattle.lookup.specs.Near.{HasNoInstants, are_near, if_near, times_in_force}
-use Rattle.roster.specs.Near.{is_near, period_times}
-use Rattle.lookup.specs.Reads.{ReadsByKey, Shows, Stays}
-use Rattle.lookup.proofs.Causes.{shows_on, wrong_there}
-use Rattle.lookup.proofs.Changes.{of_stays}
+use Rattle.lookup.specs.Near.{HasNoInstants, ids_near, is_period_near, times_in_force}
+use Rattle.lookup.proofs.HeldLemmas.{seat_held, some_seat, text_same}
 use Rattle.lookup.proofs.PlanLemmas.{has_record, record_has}
-use Rattle.lookup.proofs.PlanReads.{key_then}
-use Rattle.lookup.proofs.ReadLemmas.{in_found, of_found}
+use Rattle.lookup.proofs.ReadLemmas.{has_filtered, of_filtered}
 use Rattle.lookup.proofs.RightRows.{segments_right}
 
 -- ---- Lists
-
-same_test : (a b : Bool) → (a ≡ true → b ≡ true) → (b ≡ true → a ≡ true) → a ≡ b
-same_test true b to back = sym (to refl)
-same_test false true to back = back refl
-same_test false false to back = refl
 
 module _ {X : Type 0} (test : X → Bool) where
   any_at : (xs : List X) → list_any test xs ≡ true → (i : ℕ) × (x : X) × (slice_get xs i ≡ Some x) × (test x ≡ true)
@@ -113,66 +113,118 @@ reached_near spans r place fdp actual planned flew reached =
     let in_force = map_at flown (zip r.plan.periods r.actuals) place (fdp, actual) both in
     at_any (is_reached spans) (period_times r) place (span_of (flown (fdp, actual))) (map_at span_of (periods_in_force r) place (flown (fdp, actual)) in_force) reached
 
-module _ (s : roster.State) (db : Database) (book : IsBookOf s db) (id : List ℕ) (records : List PeriodRecord) (finds : Finds (table period) (begins_with (Text id ∷ [])) db (map period_row records)) (spans : List Span) where
-  abbrev by_id : Row → Bool
-  by_id = begins_with (Text id ∷ [])
+-- ---- The ids of the near periods
 
-  module _ (r : PairingEntry) (here : fin.get s.pairings id ≡ Some r) where
-    records_near : are_near spans records ≡ true → is_near spans r ≡ true
-    records_near e =
-        let x = any_at (λ it. is_reached spans (times_in_force it)) records e in
-        let there = of_found period by_id db (map period_row records) finds (period_row x.1) (record_has period_row records x.0 x.1 x.2) in
-        let at = (book.rows period (period_row x.1)).0 there.0 in
-        let same_id : id ≡ at.0.name = sym (text_is (found (Text id ∷ []) (period_row x.1) (tt, tt, tt) there.1).0) ∙ text_is (ap (λ (v : Row). column v 0) at.2) in
-        let value : at.0.value ≡ r = one_value (ap (fin.get s.pairings) same_id ∙ at.0.there) here in
-        let p = at.1 in
-        subst (λ (v : PairingEntry). is_near spans v ≡ true) value
-        (reached_near spans at.0.value p.place p.fdp p.actual p.planned p.flown
-        (reached_as spans (span_of (flown (p.fdp, p.actual))) (times_in_force x.1) (sym (times_are x.1 at.0.name p.place p.fdp p.actual at.2)) x.3))
+module _ (spans : List Span) where
+  near_row : (records : List PeriodRecord) (id : List ℕ) → Contains (ids_near spans records) id →
+      (it : PeriodRecord) × Has (map period_row records) (period_row it) × (is_period_near spans it ≡ true) × (it.pairing ≡ id)
+  near_row [] id c = absurd (none_in id c)
+  near_row (x ∷ xs) id c = elim (cases_Bool (is_period_near spans x)) [
+    | inl near ↦ elim (first_or_later x.pairing (ids_near spans xs) id (rw near at c)) [
+      | inl same ↦ (x, inl refl, near, same)
+      | inr later ↦ let it = near_row xs id later in (it.0, inr it.1, it.2, it.3)
+    ]
+    | inr far ↦ let it = near_row xs id (rw far at c) in (it.0, inr it.1, it.2, it.3)
+  ]
 
-    period_near : (place : ℕ) (p : Fdp × Option ActualTimes) → slice_get (zip r.plan.periods r.actuals) place ≡ Some p → is_reached spans (span_of (flown p)) ≡ true → are_near spans records ≡ true
-    period_near place p is reached =
-        let both = at_zip r.plan.periods r.actuals place p is in
-        let at : At s.pairings = record { name = id; value = r; there = here } in
-        let of_r : PeriodOf r = record { place = place; fdp = p.0; actual = p.1; planned = both.0; flown = both.1 } in
-        let row = row_of_period id place p.0 p.1 in
-        let kept = in_found period by_id db (map period_row records) finds row ((book.rows period row).1 (at, of_r, refl)) (passes (Text id ∷ []) row (refl, tt)) in
-        let it = has_record period_row records row kept in
-        at_any (λ v. is_reached spans (times_in_force v)) records it.0 it.1 it.2
-        (reached_as spans (times_in_force it.1) (span_of (flown p)) (times_are it.1 id place p.0 p.1 it.3) reached)
+  near_id : (records : List PeriodRecord) (i : ℕ) (it : PeriodRecord) → slice_get records i ≡ Some it → is_period_near spans it ≡ true → Contains (ids_near spans records) it.pairing
+  near_id [] i it e near = absurd (cc)
+  near_id (x ∷ xs) zero it e near =
+      let same : x ≡ it = cc in
+      let here = ap (is_period_near spans) same ∙ near in
+      rw here (is_first x.pairing (ids_near spans xs) it.pairing (ap (λ (r : PeriodRecord). r.pairing) same))
+  near_id (x ∷ xs) (suc i) it e near = elim (cases_Bool (is_period_near spans x)) [
+    | inl also ↦ rw also (is_later x.pairing (ids_near spans xs) it.pairing (near_id xs i it e near))
+    | inr far ↦ rw far (near_id xs i it e near)
+  ]
 
-    near_records : is_near spans r ≡ true → are_near spans records ≡ true
-    near_records e =
-        let x = any_at (is_reached spans) (period_times r) e in
-        let f = at_map span_of (periods_in_force r) x.0 x.1 x.2 in
-        let p = at_map flown (zip r.plan.periods r.actuals) x.0 f.0 f.1 in
-        let same : span_of (flown p.0) ≡ x.1 = subst (λ (g : Fdp). span_of g ≡ x.1) (sym p.2) f.2 in
-        period_near x.0 p.0 p.1 (reached_as spans (span_of (flown p.0)) x.1 same x.3)
+-- ---- The periods of the seats that a member holds
 
-    near_is : are_near spans records ≡ is_near spans r
-    near_is = same_test (are_near spans records) (is_near spans r) records_near near_records
+module _ {X Y : Type 0} (f : X → List Y) where
+  of_many : (xs : List X) (y : Y) → Has (flat_map f xs) y → (x : X) × Has xs x × Has (f x) y
+  of_many [] y h = absurd h
+  of_many (x ∷ xs) y h = elim (has_either (f x) (flat_map f xs) y h) [
+    | inl here ↦ (x, inl refl, here)
+    | inr later ↦ let r = of_many xs y later in (r.0, inr r.1, r.2)
+  ]
 
-  far_is : (o : Option PairingEntry) → fin.get s.pairings id ≡ o → are_near spans records ≡ false → None ≡ if_near spans o
-  far_is None here far = refl
-  far_is (Some r) here far = ap (λ b. if b then Some r else None) (sym far ∙ near_is r here)
+  in_many : (xs : List X) (x : X) (y : Y) → Has xs x → Has (f x) y → Has (flat_map f xs) y
+  in_many [] x y h here = absurd h
+  in_many (z ∷ zs) x y (inl same) here = has_left (f z) (flat_map f zs) y (subst (λ v. Has (f v) y) same here)
+  in_many (z ∷ zs) x y (inr later) here = has_right (f z) (flat_map f zs) y (in_many zs x y later here)
 
-  kept_is : (o : Option PairingEntry) → fin.get s.pairings id ≡ o → are_near spans records ≡ true → o ≡ if_near spans o
-  kept_is None here near = refl
-  kept_is (Some r) here near = ap (λ b. if b then Some r else None) (sym near ∙ near_is r here)
+module _ (who : List ℕ) (db : Database) (found : List Row) (finds : FindsHeld who db found) where
+  abbrev of_one : Row → List Row
+  of_one x = filter (is_of_seat who x) (rows_of (table period) db)
 
-  pub none_near : are_near spans records ≡ false → None ≡ if_near spans (fin.get s.pairings id)
-  none_near = far_is (fin.get s.pairings id) refl
+  of_held : (row : Row) → Has found row → (x : Row) × Has (rows_of (table seat) db) x × Has (rows_of (table period) db) row × (is_of_seat who x row ≡ true)
+  of_held row h =
+      let it = of_many of_one (rows_of (table seat) db) row (has_permuted found (flat_map of_one (rows_of (table seat) db)) row (IsPermutation-sym _ _ finds) h) in
+      let of_filter = of_filtered (is_of_seat who it.0) (rows_of (table period) db) row it.2 in
+      (it.0, it.1, of_filter.0, of_filter.1)
 
-  pub found_near : are_near spans records ≡ true → (found : Option PairingEntry) → found ≡ fin.get s.pairings id → found ≡ if_near spans (fin.get s.pairings id)
-  found_near near found is = is ∙ kept_is (fin.get s.pairings id) refl near
+  in_held : (x row : Row) → Has (rows_of (table seat) db) x → Has (rows_of (table period) db) row → is_of_seat who x row ≡ true → Has found row
+  in_held x row h k test =
+      has_permuted (flat_map of_one (rows_of (table seat) db)) found row finds
+      (in_many of_one (rows_of (table seat) db) x row h (has_filtered (is_of_seat who x) (rows_of (table period) db) row k test))
+
+text_equal : (a b : List ℕ) → equals (Text a) (Text b) ≡ true → a ≡ b
+text_equal a b e = text_same a b e
+
+text_itself : (a : List ℕ) → equals (Text a) (Text a) ≡ true
+text_itself a = ap is_eq (tied_itself value_cmp_total (Text a))
+
+module _ (s : roster.State) (db : Database) (book : IsBookOf s db) (who : List ℕ) (records : List PeriodRecord) (finds : FindsHeld who db (map period_row records)) (spans : List Span) where
+  of_near : (id : List ℕ) → Contains (ids_near spans records) id → IsHeldNear s spans who id
+  of_near id c =
+      let it = near_row spans records id c in
+      let x = of_held who db (map period_row records) finds (period_row it.0) it.1 in
+      let its_seat = (book.rows seat x.0).0 x.1 in
+      let its = (book.rows period (period_row it.0)).0 x.2 in
+      let tests = and_parts _ _ x.3 in
+      let names : its.0.name ≡ its_seat.0.name =
+      text_equal its.0.name its_seat.0.name (subst₂ (λ (a b : Row). equals (column a 0) (column b 0) ≡ true) its.2 its_seat.2 tests.0) in
+      let crew : its_seat.1.crew ≡ who = text_equal its_seat.1.crew who (subst (λ (b : Row). equals (column b 2) (Text who) ≡ true) its_seat.2 tests.1) in
+      let same_id : id ≡ its.0.name = sym it.3 ∙ text_is (ap (λ (r : Row). column r 0) its.2) in
+      let value : its_seat.0.value ≡ its.0.value = one_value (ap (fin.get s.pairings) names ∙ its_seat.0.there) its.0.there in
+      let p = its.1 in (
+        its.0.value,
+        ap (fin.get s.pairings) same_id ∙ its.0.there,
+        subst (λ (r : PairingEntry). holds who r ≡ true) value (seat_held who its_seat.0.value its_seat.1.seat (its_seat.1.held ∙ ap Some crew)),
+        reached_near spans its.0.value p.place p.fdp p.actual p.planned p.flown
+            (reached_as spans (span_of (flown (p.fdp, p.actual))) (times_in_force it.0) (sym (times_are it.0 its.0.name p.place p.fdp p.actual its.2)) it.2),
+      )
+
+  in_near : (id : List ℕ) → IsHeldNear s spans who id → Contains (ids_near spans records) id
+  in_near id is =
+      let r = is.0 in
+      let holder = some_seat who r is.2 in
+      let at : At s.pairings = record { name = id; value = r; there = is.1 } in
+      let held : HeldSeat r = record { seat = holder.0; crew = who; held = holder.1 } in
+      let y = any_at (is_reached spans) (period_times r) is.3 in
+      let f = at_map span_of (periods_in_force r) y.0 y.1 y.2 in
+      let p = at_map flown (zip r.plan.periods r.actuals) y.0 f.0 f.1 in
+      let both = at_zip r.plan.periods r.actuals y.0 p.0 p.1 in
+      let of_r : PeriodOf r = record { place = y.0; fdp = p.0.0; actual = p.0.1; planned = both.0; flown = both.1 } in
+      let seat_row = row_of_seat id holder.0 who in
+      let row = row_of_period id y.0 p.0.0 p.0.1 in
+      let there = in_held who db (map period_row records) finds seat_row row ((book.rows seat seat_row).1 (at, held, refl)) ((book.rows period row).1 (at, of_r, refl))
+      (and_from _ _ (text_itself id) (text_itself who)) in
+      let it = has_record period_row records row there in
+      let same : span_of (flown p.0) ≡ y.1 = subst (λ (g : Fdp). span_of g ≡ y.1) (sym p.2) f.2 in
+      let reached = reached_as spans (times_in_force it.1) (span_of (flown p.0)) (times_are it.1 id y.0 p.0.0 p.0.1 it.3) (reached_as spans (span_of (flown p.0)) y.1 same y.3) in
+      subst (Contains (ids_near spans records)) (text_is (ap (λ (v : Row). column v 0) it.3)) (near_id spans records it.0 it.1 it.2 reached)
+
+  pub near_are : AreJust (IsHeldNear s spans who) (ids_near spans records)
+  near_are id = (of_near id, in_near id)
 
 -- ---- Where the tables are right, the times are instants
 
-module _ (db : Database) (right : AreRight outside_segment db) (id : List ℕ) (records : List PeriodRecord) (finds : Finds (table period) (begins_with (Text id ∷ [])) db (map period_row records)) where
+module _ (db : Database) (right : AreRight outside_segment db) (who : List ℕ) (records : List PeriodRecord) (finds : FindsHeld who db (map period_row records)) where
   pub has_instants : HasNoInstants records → ⊥
   has_instants x =
-      let there = of_found period (begins_with (Text id ∷ [])) db (map period_row records) finds (period_row x.1) (record_has period_row records x.0 x.1 x.2) in
-      let is = (segments_right db right).1.0.2 (period_row x.1) there.0 in
+      let there = of_held who db (map period_row records) finds (period_row x.1) (record_has period_row records x.0 x.1 x.2) in
+      let is = (segments_right db right).1.0.2 (period_row x.1) there.2 in
       let report : x.1.report_at ≡ is.it.report_at = number_is (ap (λ (r : Row). column r 2) is.is) in
       let release : x.1.release_at ≡ is.it.release_at = number_is (ap (λ (r : Row). column r 3) is.is) in
       let act_report : x.1.act_report ≡ is.it.act_report = numbers_same x.1.act_report is.it.act_report (ap (λ (r : Row). column r 4) is.is) in
@@ -183,36 +235,3 @@ module _ (db : Database) (right : AreRight outside_segment db) (id : List ℕ) (
         subst IsInstantIfAny (sym act_report) is.act_report,
         subst IsInstantIfAny (sym act_release) is.act_release,
       )
-
--- ---- Read by key
-
--- a pairing that is near, or nothing, is found in the state
-abbrev IsFoundNear : List Span → List ℕ → roster.State → Option PairingEntry → Type 0
-IsFoundNear spans id s found = found ≡ if_near spans (fin.get s.pairings id)
-
-module _ (id : List ℕ) (records : List PeriodRecord) (spans : List Span) (old mid : State) (stays : Stays old mid)
-    (read : HasCleanDisk mid → IsUnchanged old mid × Finds (table period) (begins_with (Text id ∷ [])) old.now (map period_row records)) where
-  -- the database that is shown before is a book
-  is_book : HasCleanDisk mid → (s : roster.State) → Shows old s → IsBookOf s old.now
-  is_book clean s shows = shows.book (stays.nothing_new.disk clean) (read clean).0.0.was_open
-
-  pub no_instants : (fault : StoreFault) → HasNoInstants records → ReadsByKey (IsFoundNear spans id) old mid (Err fault)
-  no_instants fault none = record {
-    stays = stays;
-    opened = tt;
-    told = λ clean s shows. tt;
-    caused = λ s shows clean is. wrong_there old mid (λ right. has_instants old.now right id records (read clean).1 none);
-  }
-
-  pub far : are_near spans records ≡ false → ReadsByKey (IsFoundNear spans id) old mid (Ok None)
-  far is = record {
-    stays = stays;
-    opened = λ clean. (read clean).0.0.is_open;
-    told = λ clean s shows. (shows_on old mid s (of_stays old mid stays) shows, none_near s old.now (is_book clean s shows) id records (read clean).1 spans is);
-    caused = tt;
-  }
-
-  pub near : are_near spans records ≡ true → (new : State) (result : Result (Option PairingEntry) StoreFault) →
-      ReadsByKey (λ s found. found ≡ fin.get s.pairings id) mid new result → ReadsByKey (IsFoundNear spans id) old new result
-  near is new result rest = key_then (λ s found. found ≡ fin.get s.pairings id) (IsFoundNear spans id) old mid new result stays
-      (λ clean s shows found told. found_near s old.now (is_book clean s shows) id records (read clean).1 spans is found told) rest

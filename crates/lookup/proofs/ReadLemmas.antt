@@ -97,7 +97,7 @@ over_on old new stays over clean opened = let it = stays.still_shown clean opene
 
 -- ---- Rows that pass a test
 
-has_filtered : (test : Row → Bool) (xs : List Row) (x : Row) → Has xs x → test x ≡ true → Has (filter test xs) x
+pub has_filtered : (test : Row → Bool) (xs : List Row) (x : Row) → Has xs x → test x ≡ true → Has (filter test xs) x
 has_filtered test [] x h pass = absurd h
 has_filtered test (y ∷ ys) x (inl same) pass =
     elim (test y) as (λ b. test y ≡ b → Has (cond b (y ∷ filter test ys) (filter test ys)) x) [
@@ -110,7 +110,7 @@ has_filtered test (y ∷ ys) x (inr later) pass =
       | false ↦ has_filtered test ys x later pass
     ]
 
-of_filtered : (test : Row → Bool) (xs : List Row) (x : Row) → Has (filter test xs) x → Has xs x × (test x ≡ true)
+pub of_filtered : (test : Row → Bool) (xs : List Row) (x : Row) → Has (filter test xs) x → Has xs x × (test x ≡ true)
 of_filtered test [] x h = absurd h
 of_filtered test (y ∷ ys) x h =
     elim (test y) as (λ b. test y ≡ b → Has (cond b (y ∷ filter test ys) (filter test ys)) x → Has (y ∷ ys) x × (test x ≡ true)) [

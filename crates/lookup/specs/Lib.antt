@@ -1,6 +1,5 @@
 pub mod Reads
 pub mod Plans
-pub mod Near
 pub mod Entries
 pub mod Recorded
 pub mod Members
@@ -9,3 +8,4 @@ pub mod Outsides
 pub mod Ids
 pub mod Requests
 pub mod Count
+pub mod Near

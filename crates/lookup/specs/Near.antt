@@ -1,20 +1,25 @@
--- Which pairings are near some spans, by their times in force and by the records of their periods.
-use Rattle.std.specs.Prelude.{◌≡◌, ℕ, Bool, if◌then◌else◌, List, map, slice_get, unwrap_or}
-use Rattle.std.specs.Prelude.{Option, None, Some}
-use Rattle.std.specs.List.{list_any}
-use Rattle.std.specs.Option.{option_and_then}
+-- Which pairings of a member are near some spans, by the records of their periods.
+use Rattle.std.specs.Prelude.{◌≡◌, ℕ, Bool, List, filter, map, slice_get, unwrap_or}
+use Rattle.std.specs.Prelude.{Some, Result, IfErr, IfOk}
+use Rattle.sqlite_value.specs.Order.{Row}
+use Rattle.sqlite.specs.State as conn
+use Rattle.sqlite.specs.State.{HasCleanDisk, IsUnchanged}
 use Rattle.duty.specs.declared.span.Span.{Span}
 use Rattle.limits.specs.Reach.{is_reached}
-use Rattle.roster.specs.Near.{is_near}
-use Rattle.roster.specs.declared.state.PairingEntry.{PairingEntry}
+use Rattle.tables.specs.Held.{FindsHeld}
 use Rattle.tables.specs.declared.period.PeriodRecord.{PeriodRecord}
+use Rattle.state_rows.specs.declared.fault.StoreFault.{StoreFault}
 use Rattle.entries.specs.Keyed.{AtInstants}
+use Rattle.lookup.specs.Reads.{IsCausedIfStore, Stays}
 
--- the pairing that is found, if it is near some spans
-abbrev pub if_near : List Span → Option PairingEntry → Option PairingEntry
-if_near spans found = option_and_then (λ r. if is_near spans r then Some r else None) found
-
--- ---- By records
+-- The periods of the pairings that a member holds are read. Nothing is changed, the rows are just
+-- those of the tables, and a fault of the store has a cause.
+pub record ReadsHeld {A : Type 0} (who : List ℕ) (rows : A → List Row) (old new : conn.State)
+    (result : Result A StoreFault) : Type 0 where
+  pub stays : Stays old new
+  pub told : HasCleanDisk new →
+      IfOk result (λ a. IsUnchanged old new × FindsHeld who old.now (rows a))
+  pub caused : IfErr result (IsCausedIfStore old new)
 
 -- a record of `period` has these times, from report to release as it was flown or else planned
 abbrev pub times_in_force : PeriodRecord → Span
@@ -23,9 +28,13 @@ times_in_force it = record {
   to = unwrap_or it.act_release it.release_at;
 }
 
--- a window may have a minute of one of the spans and of one of the periods with these records
-abbrev pub are_near : List Span → List PeriodRecord → Bool
-are_near spans records = list_any (λ it. is_reached spans (times_in_force it)) records
+-- a window may have a minute of one of the spans and of the period with this record
+abbrev pub is_period_near : List Span → PeriodRecord → Bool
+is_period_near spans it = is_reached spans (times_in_force it)
+
+-- the ids of the pairings of the periods that are near some spans
+abbrev pub ids_near : List Span → List PeriodRecord → List (List ℕ)
+ids_near spans records = map (λ it. it.pairing) (filter (is_period_near spans) records)
 
 -- some record of `period` has a time that is no instant
 abbrev pub HasNoInstants : List PeriodRecord → Type 0

@@ -1,6 +1,6 @@
 -- What is read of one pairing, and what its records give.
 use Rattle.std.specs.Prelude.{◌≡◌, ⊤, ℕ, List, [], ◌∷◌, map, Option, None, Some}
-use Rattle.std.specs.Prelude.{Result, IfErr, IfOk, IsTrue, slice_get}
+use Rattle.std.specs.Prelude.{Result, IfErr, IfOk, slice_get}
 use Rattle.sqlite_value.specs.declared.value.Value.TheVariants.{Text}
 use Rattle.sqlite.specs.Effect.{Database}
 use Rattle.sqlite.specs.State as conn
@@ -24,11 +24,6 @@ use Rattle.lookup.specs.declared.pairing.PlanRecords.{PlanRecords}
 abbrev pub IfSome : {A : Type 0} → List A → Type 0 → Type 0
 IfSome [] P = ⊤
 IfSome (x ∷ xs) P = P
-
--- an open connection shows just these records of the periods of one pairing
-abbrev pub ShowsPeriods : List ℕ → List PeriodRecord → conn.State → Type 0
-ShowsPeriods id records now = HasCleanDisk now → IsTrue now.is_open
-    × Finds (table period) (begins_with (Text id ∷ [])) now.now (map period_row records)
 
 -- just the records of the periods of one pairing are found, and if there is any, those of its
 -- segments and of its held seats

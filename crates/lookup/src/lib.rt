@@ -23,6 +23,7 @@ pub use held::pairings_held_at;
 pub use ids::{crew_ids_at, pairing_ids_at};
 pub use kept_request::request_at;
 pub use member::member_at;
+pub use near::pairings_near_at;
 pub use outside::{outside_at, outsides_held_at};
-pub use pairing::{pairing_at, pairing_near_at};
+pub use pairing::pairing_at;
 pub use under_number::requests_at;

@@ -1,21 +1,15 @@
 //! A pairing with its actuals and holders, read by id.
 //! Through the program: `tests/answers.py`. Wrong bodies: `must-fail-more/`.
 
-ghost use Rattle.std.specs.Prelude.{◌≡◌, [], ◌∷◌, map, IfErr, IfOk, IsSome, slice_get};
+ghost use Rattle.std.specs.Prelude.{◌≡◌, IfErr, IfOk, IsSome, slice_get};
 ghost use Rattle.std.specs.FinMap as fin;
 ghost use Rattle.sqlite.specs.Held.{state};
-ghost use Rattle.sqlite_value.specs.declared.value.Value.TheVariants as value;
-ghost use Rattle.tables.specs.Records.{period_row};
-ghost use Rattle.tables.specs.Rows.{begins_with};
 ghost use Rattle.state_rows.specs.Outcomes.{IsOutside, IsOverBook};
-ghost use Rattle.state_rows.specs.Rows.{period};
 ghost use Rattle.entries.specs.OnePairing.{GiveNoPairing};
-ghost use Rattle.lookup.specs.Near.{if_near};
-ghost use Rattle.lookup.specs.Reads.{ReadsByKey, ReadsRows};
-ghost use Rattle.lookup.specs.Plans.{HoldsSeat, ReadsPlan, ShowsPeriods, TellsPairing, unread_as};
+ghost use Rattle.lookup.specs.Reads.{ReadsByKey};
+ghost use Rattle.lookup.specs.Plans.{HoldsSeat, ReadsPlan, TellsPairing, unread_as};
 
-use crate::near::are_near;
-use duty::{CrewId, PairingId, Span};
+use duty::{CrewId, PairingId};
 use entries::{LoadFault, pairing_of_records};
 use roster::PairingEntry;
 use sqlite::{Alter, Connection};
@@ -34,43 +28,21 @@ pub(crate) struct PlanRecords {
     pub(crate) seats: Vec<SeatRecord>,
 }
 
-/// Reads the records of a pairing's periods.
-#[tactic(auto, using(crate::proofs::ReadLemmas::was_read, crate::proofs::ReadLemmas::not_read, crate::proofs::ReadLemmas::holds_open))]
-fn period_rows<S: Alter>(
-    alloc: Global,
-    conn: &mut Connection<S>,
-    id: &str,
-) -> Result<Vec<PeriodRecord>, StoreFault>
-    requires outside { IsOutside (state S.Store conn.old) }
-    requires over { IsOverBook (state S.Store conn.old) }
-    ensures { ReadsRows period (begins_with (value.Text id.now ∷ []))
-        (λ found. map period_row found.items) (state S.Store conn.old)
-        (state S.Store conn.new) result }
-{
-    // The clause of this call says that outside a transaction what is shown is committed.
-    let _settled = conn.is_autocommit();
-    match periods_of(alloc, conn, id) {
-        Ok(records) => Ok(records),
-        Err(fault) => Err(StoreFault::from(fault)),
-    }
-}
-
-/// Reads, beside the records of a pairing's periods, those of their segments and of the seats that are held. Without a period
-/// there is no pairing, and nothing more is read.
+/// Reads the records of a pairing's periods, of their segments and of the seats that are held. Without a period there is no
+/// pairing, and nothing more is read.
 #[tactic(auto, using(crate::proofs::ReadLemmas::holds_open))]
 fn plan_rows<S: Alter>(
     alloc: Global,
     conn: &mut Connection<S>,
     id: &str,
-    periods: Vec<PeriodRecord>,
 ) -> Result<PlanRecords, StoreFault>
     requires outside { IsOutside (state S.Store conn.old) }
     requires over { IsOverBook (state S.Store conn.old) }
-    requires read { ShowsPeriods id.now periods.items (state S.Store conn.old) }
     ensures { ReadsPlan id.now (state S.Store conn.old) (state S.Store conn.new) result }
 {
     // The clause of this call says that outside a transaction what is shown is committed.
     let _settled = conn.is_autocommit();
+    let periods = periods_of(alloc, conn, id)?;
     if periods.is_empty() {
         return Ok(PlanRecords {
             periods,
@@ -138,24 +110,6 @@ fn pairing_of_rows(
     Ok(Some(pairing))
 }
 
-/// Reads the rest of the pairing of an id, whose periods have these records.
-#[tactic(auto, using(crate::proofs::Causes::not_told))]
-fn pairing_with<S: Alter>(
-    alloc: Global,
-    conn: &mut Connection<S>,
-    id: &PairingId,
-    periods: Vec<PeriodRecord>,
-) -> Result<Option<PairingEntry>, StoreFault>
-    requires outside { IsOutside (state S.Store conn.old) }
-    requires over { IsOverBook (state S.Store conn.old) }
-    requires read { ShowsPeriods id.now periods.items (state S.Store conn.old) }
-    ensures { ReadsByKey (λ s found. found ≡ fin.get s.pairings id.now) (state S.Store conn.old)
-        (state S.Store conn.new) result }
-{
-    let rows = plan_rows(alloc, conn, id.as_str(), periods)?;
-    pairing_of_rows(alloc, id, &rows)
-}
-
 /// Reads the pairing of an id.
 #[tactic(auto, using(crate::proofs::Causes::not_told))]
 pub fn pairing_at<S: Alter>(
@@ -168,28 +122,6 @@ pub fn pairing_at<S: Alter>(
     ensures { ReadsByKey (λ s found. found ≡ fin.get s.pairings id.now) (state S.Store conn.old)
         (state S.Store conn.new) result }
 {
-    let periods = period_rows(alloc, conn, id.as_str())?;
-    pairing_with(alloc, conn, id, periods)
-}
-
-/// Reads the pairing of an id, if a window may have a minute of one of its periods and of one of these spans. Of one that is far
-/// from them only the periods are read.
-#[tactic(auto, using(crate::proofs::Causes::not_told))]
-pub fn pairing_near_at<S: Alter>(
-    alloc: Global,
-    conn: &mut Connection<S>,
-    id: &PairingId,
-    spans: &[Span],
-) -> Result<Option<PairingEntry>, StoreFault>
-    requires outside { IsOutside (state S.Store conn.old) }
-    requires over { IsOverBook (state S.Store conn.old) }
-    ensures { ReadsByKey (λ s found. found ≡ if_near spans.now (fin.get s.pairings id.now))
-        (state S.Store conn.old) (state S.Store conn.new) result }
-{
-    let periods = period_rows(alloc, conn, id.as_str())?;
-    let near = are_near(&periods, spans)?;
-    if !near {
-        return Ok(None);
-    }
-    pairing_with(alloc, conn, id, periods)
+    let rows = plan_rows(alloc, conn, id.as_str())?;
+    pairing_of_rows(alloc, id, &rows)
 }

@@ -5,4 +5,3 @@ pub mod StaysTyped
 pub mod TypedRows
 pub mod Loads
 pub mod Parting
-pub mod Nearness

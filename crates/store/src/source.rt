@@ -5,7 +5,7 @@ use command::{Key, Member};
 use duty::{CrewId, Ground, GroundId, OutsideId, PairingId, Span};
 use lookup::{
     bases_at, crew_ids_at, exceedances_at, ground_at, grounds_held_at, member_at, outside_at,
-    outsides_held_at, pairing_at, pairing_ids_at, pairing_near_at, pairings_held_at, request_at,
+    outsides_held_at, pairing_at, pairing_ids_at, pairings_held_at, pairings_near_at, request_at,
     requests_at,
 };
 use part::Source;
@@ -85,15 +85,6 @@ impl<S: Alter> Source for Store<S> {
         pairing_at(alloc, &mut self.conn, id)
     }
 
-    fn pairing_near(
-        &mut self,
-        alloc: Global,
-        id: &PairingId,
-        spans: &[Span],
-    ) -> Result<Option<PairingEntry>, StoreFault> {
-        pairing_near_at(alloc, &mut self.conn, id, spans)
-    }
-
     fn ground(&mut self, alloc: Global, id: &GroundId) -> Result<Option<Ground>, StoreFault> {
         ground_at(alloc, &mut self.conn, id)
     }
@@ -108,6 +99,15 @@ impl<S: Alter> Source for Store<S> {
 
     fn pairings_of(&mut self, alloc: Global, who: &CrewId) -> Result<Vec<PairingId>, StoreFault> {
         pairings_held_at(alloc, &mut self.conn, who)
+    }
+
+    fn pairings_near(
+        &mut self,
+        alloc: Global,
+        who: &CrewId,
+        spans: &[Span],
+    ) -> Result<Vec<PairingId>, StoreFault> {
+        pairings_near_at(alloc, &mut self.conn, who, spans)
     }
 
     fn grounds_of(&mut self, alloc: Global, who: &CrewId) -> Result<Vec<GroundId>, StoreFault> {
