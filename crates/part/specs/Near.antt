@@ -16,6 +16,7 @@ use Rattle.roster.specs.Pairings.{holds}
 use Rattle.roster.specs.Sound.{Sound}
 use Rattle.roster.specs.State.{State}
 use Rattle.roster.specs.Steps.{step_of}
+use Rattle.roster.specs.declared.state.PairingEntry.{PairingEntry}
 use Rattle.part.specs.Part.{Part, is_one_of, judged_by, members_named, pairings_named}
 
 -- ---- Where the new duties lie
