@@ -52,14 +52,14 @@ module _ (s : State) (instruction : Instruction) where
   near_of ids just q r there = same_test (is_one_of ids q) _
       (λ one.
       let it = (just q).0 (of_one ids q one) in
-      let same : it.2.0 ≡ r = same_Some (sym it.2.1 ∙ there) in
+      let same : it.2.0 ≡ r = same_Some it.2.0 r (sym it.2.1 ∙ there) in
       and_from _ _
       (any_of (λ who. holds who r) (judged_by s instruction) it.0 it.1 (ap (holds it.0) (sym same) ∙ it.2.2))
       (ap (is_near (new_times s instruction)) (sym same) ∙ it.2.3))
       (λ both.
       let it = and_parts _ _ both in
       let one = of_any (λ who. holds who r) (judged_by s instruction) it.0 in
-      one_of ids q ((just q).1 (one.0, one.1, r, there, one.2, it.1)))
+      one_of ids q ((just q).1 (one.0, one.1, (r, there, one.2, it.1))))
 
   near_are : (ids : List (List ℕ)) → AreJust (IsNearOfOne s (new_times s instruction) (judged_by s instruction)) ids →
       picked s.pairings (picked s.pairings fin.empty (pairings_named instruction)) ids ≡ fin.retain_keys s.pairings (needs_near s instruction)
