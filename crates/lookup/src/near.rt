@@ -1,7 +1,7 @@
 //! Which pairings of a member are near some spans, by the records of their periods alone.
 //! Through the program: `tests/answers.py`. Wrong bodies: `must-fail-more/`.
 
-ghost use Rattle.std.specs.Prelude.{◌≡◌, IfErr, IfOk, MatchOption, map};
+ghost use Rattle.std.specs.Prelude.{◌≡◌, ◌++◌, ◌∷◌, [], IfErr, IfOk, MatchOption, OnOk, map};
 ghost use Rattle.sqlite.specs.Held.{state};
 ghost use Rattle.tables.specs.Records.{period_row};
 ghost use Rattle.state_rows.specs.Outcomes.{IsOutside, IsOverBook};
@@ -19,7 +19,7 @@ use state_rows::StoreFault;
 use std::alloc::Global;
 use tables::period::{PeriodRecord, periods_held_by};
 use time117::Minute;
-use values::TryClone;
+use values::{MemoryFault, TryClone};
 
 /// Reads the records of the periods of the pairings that a member holds.
 #[tactic(auto, using(crate::proofs::NearReads::was_read, crate::proofs::NearReads::not_read, crate::proofs::ReadLemmas::holds_open))]
@@ -54,6 +54,14 @@ fn times_in_force(row: &PeriodRecord) -> Option<Span>
     })
 }
 
+/// Adds the id of a period's pairing to a list.
+fn add_id(alloc: Global, ids: &mut Vec<PairingId>, row: &PeriodRecord) -> Result<(), MemoryFault>
+    ensures { OnOk result (ids.new.items ≡ ids.old.items ++ row.now.pairing ∷ []) }
+{
+    ids.push(PairingId::new(row.pairing.try_clone(alloc)?))?;
+    Ok(())
+}
+
 /// Returns the ids of the pairings of the periods that are near: a window may have a minute of one of the spans and of the
 /// period. Times that are no instants are a fault of the store.
 fn ids_near(
@@ -71,7 +79,7 @@ fn ids_near(
             return Err(StoreFault::Store);
         };
         if is_reached(spans, times) {
-            ids.push(PairingId::new(row.pairing.try_clone(alloc)?))?;
+            add_id(alloc, &mut ids, row)?;
         }
     }
     Ok(ids)
