@@ -9,15 +9,18 @@
 script are modules that say what they import; here they become one module, each behind those that it imports, without its imports. So no
 two parts may have the same name at the top, and none may import itself by a detour. Comments are left out of the page, and blanks that
 mean nothing; there `const` is `let`, once for declarations that follow each other, `true` is `!0`, no semicolon stands before a brace or
-at the end of a line where none is needed, and the style's colours and lengths have a letter each for a name. The policy allows one script and one style, by their hashes, and nothing else.
+at the end of a line where none is needed. The style's colours and lengths have a letter each for a name; so have the names at the top of the
+parts, or a letter and a digit, but for those that are somewhere a property's name too. The policy allows one script and one style, by their
+hashes, and nothing else.
 """
 
 import base64
 import hashlib
 import re
 import sys
+from collections import Counter
 from pathlib import Path
-from string import ascii_letters
+from string import ascii_letters, digits
 
 HERE = Path(__file__).resolve().parent
 CRATE = HERE.parent / "crates" / "desk" / "src"
@@ -30,6 +33,9 @@ DECLARED = re.compile(r"^(export )?(async function|function|const|let|class) (.*
 TEMPLATE = r"`(?:\$\{(?:`[^`]*`|[^`}])*\}|\$(?!\{)|[^`$])*`"  # also one that has others in it
 PATTERN = r"/(?! )(?:\\.|\[(?:\\.|[^\]\\])*\]|[^/\\[])+/[gi]*"  # (a quotient has a blank behind its sign)
 LITERALS = re.compile(rf"('[^']*'|{TEMPLATE}|{PATTERN})")
+INSERTED = re.compile(r"\$\{((?:`[^`]*`|[^`}])*)\}")  # in a template
+INNERMOST = re.compile(r"\([^][(){}]*\)|\[[^][(){}]*\]|\{[^][(){}]*\}")
+WORD = re.compile(r"[\w$]+")
 TRUTHS = {"true": "!0", "false": "!1"}
 TRUTH = re.compile(r"(?<![\w$.])(?:true|false)(?![\w$:])")
 BRACKETS = re.compile(r"\([^()]*\)|\[[^][]*\]|\{[^{}]*\}|'[^']*'")
@@ -110,6 +116,9 @@ def parts_of_script():
 # ---- The page.
 
 
+COMMENT = r"(^|  )//.*$| /\*.*\*/"  # in the script
+
+
 def lines_of(text, comment, made=str):
     """The text without comments, empty lines and blanks around lines, each made anew. What stands indented, or ends it, has one line with
     what is before it."""
@@ -140,6 +149,47 @@ def is_plain(line):
     return line.startswith("let ") and line.find(";") == len(line) - 1
 
 
+def in_code(line, change):
+    """A line with its code changed, also that in its templates; texts and patterns stay."""
+    parts = LITERALS.split(line)
+    for n, part in enumerate(parts):
+        if n % 2 == 0:
+            if re.search(r"[`'\"]", part):
+                raise Fault(f"a text has no end: {line}")
+            parts[n] = change(part)
+        elif part[0] == "`":
+            parts[n] = INSERTED.sub(lambda it: f"${{{in_code(it[1], change)}}}", part)
+    return "".join(parts)
+
+
+def properties(code):
+    """The names that the code has for properties: behind a dot, before a colon, and alone in braces, as in `{ name, other = 0 }`. (A method
+    is called behind a dot.)"""
+    names = {*re.findall(r"(?<!\.)\.([\w$]+)", code), *re.findall(r"([\w$]+):", code)}
+
+    def without(it):
+        if it[0][0] == "{":
+            names.update(re.findall(r"(?:^|,)\s*([\w$]+)\s*(?=,|=|$)", it[0][1:-1]))
+        return " _ "
+
+    while (plain := INNERMOST.sub(without, code)) != code:
+        code = plain
+    return names
+
+
+def short_names(parts, lines):
+    """A short name for each name at the top of a part that is no property's: so it means the same wherever it stands. The short ones occur
+    nowhere yet; what stands most often gets the shortest."""
+    pieces = []
+    for line in lines:
+        in_code(line, lambda piece: pieces.append(piece) or piece)
+    code = "''".join(pieces)
+    count, kept = Counter(WORD.findall(code)), properties(code)
+    names = sorted({name for part in parts for name in part.names} - kept, key=lambda it: (-count[it], it))
+    free = (it for it in (*ascii_letters, *(a + n for a in ascii_letters for n in digits)) if it not in count)
+    return {name: next(free) if len(name) > 1 else name for name in names}
+
+
 def joined(script):
     """The script with one `let` for declarations that follow each other, and without semicolons that end a block."""
     lines = []
@@ -163,7 +213,13 @@ def page():
     """The text of the page."""
     style = "".join(lines_of((HERE / "style" / f"{name}.css").read_text(), r"^/\*.*\*/$") for name in STYLES)
     style = re.sub(r" ?([{};,>]) ?|(:) ", r"\1\2", style)
-    script = joined("".join(lines_of(part.body, r"(^|  )//.*$| /\*.*\*/", squeezed) for part in parts_of_script()))
+    parts = parts_of_script()
+    short = short_names(parts, [re.sub(COMMENT, "", line) for part in parts for line in part.body.splitlines()])
+
+    def made_short(line):
+        return squeezed(in_code(line, lambda code: WORD.sub(lambda it: short.get(it[0], it[0]), code)))
+
+    script = joined("".join(lines_of(part.body, COMMENT, made_short) for part in parts))
     shell = lines_of((HERE / "shell.html").read_text(), r"^<!--.*-->$")
     made = shell.replace("@STYLE@\n", renamed(style, script)).replace("@SCRIPT@\n", script)
     if len(made.encode()) > MOST:

@@ -123,7 +123,7 @@ def try_text(seen):
 def try_refusals(seen):
     text = (TOP / "docs" / "REFUSALS.md").read_text()
     there = re.findall(r"^\| (\d+) \| (.*?) \| (.*?) \|$", text.partition("## On the desk")[2].partition("\n## ")[0], re.M)
-    here = re.findall(r"\b(\d+):\['(.*?)','(.*?)'\],", re.search(r"^(?:let )?REFUSALS=\{(.*)\}[,;]?$", literal(PAGE), re.M)[1])
+    here = re.findall(r"\b(\d+):\['(.*?)','(.*?)'\],", re.search(r"^(?:let )?\w+=\{(1:\['.*)\}[,;]?$", literal(PAGE), re.M)[1])
     seen.expect("the words of the desk", here, there)
     numbers = {int(number) for number in re.findall(r"^\| (\d+) [A-Z]", text, re.M)}
     seen.expect("each refusal that a server answers has words", {int(it[0]) for it in here}, {it for it in numbers if it < 40} | {90, 91})
