@@ -157,7 +157,8 @@ class Relay:
     server: int  # its port
     lose: object = None  # called once, after the next command: its answer is lost
     said: list = field(default_factory=list)  # what is answered to the next commands, which aren't handed on
-    held: threading.Event | None = None  # until it is set, no limits are answered
+    held: threading.Event | None = None  # until it is set, no limits are answered, or no other path that has `held_path`
+    held_path: bytes = b"/limits/"
     commands: list = field(default_factory=list)  # those that came
     paths: list = field(default_factory=list)  # what was asked for, in turn
     listener: socket.socket = field(default_factory=lambda: socket.create_server((LOOPBACK, 0)))
@@ -182,7 +183,7 @@ class Relay:
                 is_command = asked.startswith(b"POST /requests ")
                 if is_command:
                     self.commands.append(asked.partition(b"\r\n\r\n")[2].decode())
-                if self.held and b"/limits/" in asked.split(b"\r\n")[0]:
+                if self.held and self.held_path in asked.split(b"\r\n")[0]:
                     self.held.wait(PATIENCE)
                 answer = self.said.pop(0) if is_command and self.said else self.answer(asked) if asked else b""
                 if is_command and self.lose:
@@ -397,7 +398,9 @@ def try_first_hour(seen, visitor):
         person.fill("Name", "Ada Ray", "form")
         person.press("Add member")
         seen.expect("a member twice", person.sees("A member has this id already.", "#told"))
+        seen.expect("the id has the focus", person.wait(lambda: person.js("return document.activeElement.value") == "C1"))
         person.type(person.key.ESCAPE)
+        seen.expect("Esc closes the message", person.text("#told"), "")
         person.go("import")
         person.drop_file(JUNE)
         seen.expect("a preview", person.sees("3 pairings read") and "BOS–SEA–BOS" in person.text())
@@ -406,6 +409,8 @@ def try_first_hour(seen, visitor):
         person.press("Open", "nav")
         person.press("B101", "main")
         seen.expect("who may fly", person.sees("1 of 1 may", "#panel"))
+        words = "With it: flight in 28 days 3:30 of 100:00, flight duty in 7 days 7:45 of 60:00, least rest 7 days or more"
+        seen.expect("how near to the limits", person.sees(words, "#panel"))
         person.press("Assign Ada Ray", "#panel")
         person.press("Assign Bo Lund", "#panel")
         seen.expect("both fly", person.sees("Captain Ada Ray C1", "#panel") and person.sees("First officer Bo Lund F1", "#panel"))
@@ -555,7 +560,7 @@ def try_foretold(seen, visitor):
                 person.fill(name, text, "details")
             person.press("Add ground duty")
             seen.expect(begin, person.sees(words, "#told"))
-        seen.expect("it isn't told as if it were so", person.text("#told").count("Ada Ray (C1) was not given Medical (G1):"), 3)
+        seen.expect("it isn't told as if it were so, and once", person.text("#told").count("Ada Ray (C1) was not given Medical (G1):"), 1)
     seen.expect("the exceedances", [it.split(" ", 2)[2] for it in book.exceedances()], ["C1 117.25(e) X1 0"])
     seen.expect("no ground duty", book.rows("SELECT id FROM ground"), [])
 
@@ -586,7 +591,15 @@ def try_schedule(seen, visitor):
     }
     with at_desk(seen, visitor, book, ("422 (Unprocessable",)) as person:
         person.open("import")
+        person.press("What a schedule looks like")
+        example = "\n".join(re.findall(r"^    (pairing,period,report.*|P1,1,2025-06-10T11:00Z,.*)$", (TOP / "docs" / "FORMATS.md").read_text(), re.M)[:2])
+        seen.expect("an example", person.text("pre"), example)
+        seen.expect("what an id is", "An id has only A-Z, 0-9 and -, at most 12 of them." in person.text("main"))
         person.press("or paste it")
+        for number, empty in ((3, "  "), (4, ",,,,,,,,")):
+            person.fill("The schedule as text", "".join(june.splitlines(True)[: number - 1]) + f"{empty}\n")
+            seen.expect("an empty line", person.sees(f"1 record can’t be read\nRecord {number}: it is an empty line: take it out."))
+            seen.expect("why it can't be handed in", person.sees("correct first what can’t be read"))
         for why, (old, new) in wanted.items():
             text = june.replace(old, new)
             number = 5 if "RB 4" in new else 4  # (of the file: B101 isn't sent; the pairing's first, if no text of it is wrong)
@@ -608,6 +621,7 @@ def try_schedule(seen, visitor):
         person.fill("The schedule as text", june)
         person.press("Import 2 pairings")
         seen.expect("imported", person.wait(lambda: person.text().count("✓ in the book")), 2)
+        seen.expect("why nothing is left", person.sees("the book has them all already"))
         person.fill("The schedule as text", june.replace("2025-06-11T19:30Z", "2025-06-11T20:30Z").replace("Q103", "Q104"))
         states = "return [...document.querySelectorAll('tbody tr td:last-child')].map(it => it.textContent)"
         wanted = ["already there", "there with other times: cancel it first", "new"]
@@ -645,6 +659,7 @@ def try_names(seen, visitor):
         person.fill("Id", "C 3", "form")
         person.fill("Name", "Max Weil", "form")
         person.press("Add member")
+        seen.expect("the field has the focus", person.wait(lambda: person.js("return document.activeElement.value") == "C 3"))
         seen.expect("an id", person.sees("Max Weil (C 3) was not added:\n✕\nA text has a sign that it may not have, or it is empty or too long. It is about Id “C 3”.", "#told"))
         base = "form:nth-of-type(2)"
         person.fill("Id", "BER", base)
@@ -667,6 +682,7 @@ def try_names(seen, visitor):
             person.fill(name, text, row)
         person.press("Add pairing")
         seen.expect("a flight", person.sees("Pairing B9 was not added:", "#told") and person.sees("It is about Flight “R-1”.", "#told"))
+        seen.expect("which has the focus", person.wait(lambda: person.js("return document.activeElement.value") == "R-1"))
         person.fill("Flight", "R1", row)
         person.fill("Release", "1030", "form")
         person.press("Add pairing")
@@ -683,12 +699,14 @@ def try_names(seen, visitor):
     seen.expect("the pairing", "B9 - -" in book.seats())
 
 
+ON_25_JUNE = "const real = Date.now, off = Date.parse('2025-06-25T12:00Z') - real(); Date.now = () => real() + off;"
+
+
 def try_phone(seen, visitor):
     """A captain's phone on 25 June: today comes first, by the clock of the captain's base."""
     plans = "".join(f"plan P{day} {day}: 16:00 | 17:00-19:00 | 20:00\nassign P{day} C9\n" for day in (3, 8, 13, 18, 21, 25, 28))
     book = seen.book(OFFICE + plans)
-    now = "const real = Date.now, off = Date.parse('2025-06-25T12:00Z') - real(); Date.now = () => real() + off;"
-    added = visitor.execute_cdp_cmd("Page.addScriptToEvaluateOnNewDocument", {"source": now})
+    added = visitor.execute_cdp_cmd("Page.addScriptToEvaluateOnNewDocument", {"source": ON_25_JUNE})
     try:
         with at_desk(seen, visitor, book) as person:
             person.size(NARROW)
@@ -779,10 +797,18 @@ def try_seats(seen, visitor):
         person.press("Replace Zoë Roy")
         person.press("Replace by Jo Poe")
         seen.expect("replaced", person.sees("Jo Poe (F2) flies B101, in place of Zoë Roy (F1).", "#told"))
+        person.press("Undo", "#told")
+        seen.expect("and back", person.sees("Zoë Roy (F1) flies B101, in place of Jo Poe (F2).", "#told") and person.sees("First officer Zoë Roy F1", "main"))
+        person.press("Undo", "#told")
+        seen.expect("and replaced again", person.sees("First officer Jo Poe F2", "main"))
         person.press("Swap Ada Ray")
         seen.expect("with whom", person.sees("1 of 1 may"))
         person.press("Swap: Ada Ray (C1) flies B103, Bo Lind (C2) flies B101")
         seen.expect("swapped", person.sees("Captain Bo Lind C2", "main"))
+        person.press("Undo", "#told")
+        seen.expect("swapped back", person.sees("Captain Ada Ray C1", "main"))
+        person.press("Undo", "#told")
+        seen.expect("and again", person.sees("Captain Bo Lind C2", "main"))
         person.press("Release Jo Poe")
         seen.expect("released", person.sees("Who may fly as first officer?", "main"))
         person.go("board/2025-06-01/month")
@@ -799,8 +825,9 @@ def try_requests(seen, visitor):
         book = seen.book(lines + "assign B103 C2\n")
         with at_desk(seen, visitor, book) as person:
             person.open("board/2025-06-01/month")
-            lists = ["/json/reports/pairings", "/json/exceedances"]
-            seen.expect("a month, and the page itself", asked_by(person), ["/", *lists, "/json/board/2025-05-31/2025-07-01"])
+            month, lists = "/json/board/2025-05-31/2025-07-01", ["/json/reports/pairings", "/json/exceedances"]
+            seen.expect("how many requests are kept, before all that is read", person.relay.paths[:3], ["/", COUNT, month])
+            seen.expect("a month, and the page itself", asked_by(person), ["/", month, *lists])
             seen.expect("all duties", person.js("return document.querySelectorAll('.row .duty').length"), 4)
             person.type(person.key.PAGE_DOWN) if person.js("return document.activeElement.closest('#grid')") else person.press("Later")
             seen.expect("the next month", [person.text("h1"), asked_by(person)], ["July 2025", ["/json/board/2025-06-30/2025-08-01"]])
@@ -1154,7 +1181,9 @@ def try_keys(seen, visitor):
         seen.expect("o", person.text("h1"), "Open pairings")
         person.type("b")
         seen.expect("b", person.text("h1"), "June 2025")
-        person.js("document.querySelector('#grid [tabindex=\"0\"]').focus()")
+        person.js("document.activeElement.blur()")
+        person.type(key.ARROW_DOWN)
+        seen.expect("an arrow goes to the grid", person.focused().startswith("Ada Ray"))
         seen.expect("one tab stop", person.js("return document.querySelectorAll('#grid [tabindex=\"0\"]').length"), 1)
         person.type(key.ARROW_RIGHT)
         seen.expect("to a duty", person.focused(), "Ada Ray: B101/1, planned, Tue 10 Jun 17:00 to Wed 11 Jun 01:15")
@@ -1183,6 +1212,16 @@ def try_keys(seen, visitor):
         person.type("/")
         person.type("b102", key.ENTER)
         seen.expect("found by the id", person.sees("Pairing B102", "h1"))
+        person.type("/")
+        person.type("rb3", key.ENTER)
+        seen.expect("found by a flight", person.sees("Pairing B103", "h1"))
+        person.go("board/2025-06-01/month")
+        person.type("/")
+        person.type("rb1", key.ENTER)
+        listed = "return [...document.querySelectorAll('#panel li a')].map(it => it.textContent)"
+        seen.expect("several with a flight", person.sees("Flight RB1", "#panel") and person.js(listed), ["B101", "B103"])
+        person.press("B103", "#panel li")
+        seen.expect("one of them", person.sees("Pairing B103", "#panel h2"))
         person.js("document.activeElement.blur()")
         person.type("?")
         seen.expect("help", person.sees("What this desk sent last", "dialog"))
@@ -1250,6 +1289,136 @@ def try_inspector(seen, visitor):
         seen.expect("the duty, beside the plan", person.sees("117.13(a) Flight duty period (Table B): Ada Ray (C1)", "#panel") and "+4:30" in person.text("#panel"))
 
 
+def try_within(seen, visitor):
+    """What is within its limit since it was corrected stays on record, and isn't red any more; what still exceeds it is."""
+    on_time = "fly B101 1 10: 17:00 | 18:00-19:45, 23:00-+1 00:45 | +1 01:15\n"
+    colours = "return [...document.querySelectorAll(arguments[0])].map(it => getComputedStyle(it).color === getComputedStyle(document.querySelector('.is-bad') ?? bad()).color);"
+    is_red = "const bad = () => { const it = document.body.appendChild(document.createElement('i')); it.className = 'bad is-bad'; return it; };" + colours
+    for lines, words, red in ((LATE, "0:15 over 12:00", True), (LATE + on_time, "within 12:00 now", False)):
+        book = seen.book(OFFICE + lines)
+        with at_desk(seen, visitor, book) as person:
+            person.open("exceedances")
+            seen.expect("on record", person.sees("2 of 2 on record") and person.sees(words))
+            seen.expect(f"by how much is red: {red}", person.js(is_red, "td:nth-child(3)"), [red, red])
+            person.go("member/C1")
+            seen.expect("the member's row", person.sees("▲ exceeded 117.13(a)" + ("" if red else ": within now")))
+            seen.expect(f"it is red: {red}", person.js(is_red, ".duties tbody tr, .duties td span.num, .duties td:last-child span"), [red, red])
+            person.go("pairing/B101")
+            seen.expect("the pairing", person.sees("117.13(a) Flight duty period (Table B): Ada Ray (C1)"))
+            seen.expect("it says so", person.text("main").count("On record; by the times now it is within."), 0 if red else 2)
+            seen.expect(f"its notes are red: {red}", len(person.js("return [...document.querySelectorAll('.note.bad')].map(it => 1)")), 2 if red else 0)
+
+
+def try_early(seen, visitor):
+    """The board stands before the lists are read; when they come, nothing moves, and what somebody is at goes on."""
+    book = seen.book(OFFICE + "assign B103 C2\n")
+    places = "return [...document.querySelectorAll('nav a, .tools > *, .row, .duty, #lanes, h1, .legend span')].map(it => JSON.stringify(it.getBoundingClientRect()))"
+    counts = "return ['openCount', 'exceededCount'].map(id => document.getElementById(id).textContent)"
+    with at_desk(seen, visitor, book) as person:
+
+        def hold(where):
+            person.relay.held, person.relay.held_path = threading.Event(), b"/reports/pairings"
+            visitor.get("about:blank")
+            visitor.get(f"http://{LOOPBACK}:{person.port}/#/{where}")
+
+        hold("board/2025-06-01/month")
+        seen.expect("the duties of the month", person.wait(lambda: person.js("return document.querySelectorAll('.row .duty').length") == 4))
+        seen.expect("what is open", person.js("return [...document.querySelectorAll('#lanes .duty')].map(it => it.dataset.open)"), ["B102", "B103"])
+        seen.expect("no numbers yet", person.js(counts), ["…", "…"])
+        person.fill("Filter members", "Roy")
+        before = person.js(places)
+        person.relay.held.set()
+        person.calm()
+        seen.expect("the numbers", person.js(counts), ["2", "0"])
+        seen.expect("nothing has moved", person.js(places), before)
+        person.type(" x")
+        seen.expect("the filter goes on", person.js("return document.activeElement.value"), "Roy x")
+        hold("board/2025-06-01/month+pairing/B101")
+        seen.expect("the panel waits", person.sees("Reading…", "#panel"))
+        person.found("return document.querySelector('#find')").send_keys("b102" + person.key.ENTER)
+        seen.expect("so does what is found", person.sees("Reading the book…", "h1"))
+        person.relay.held.set()
+        seen.expect("it is there", person.sees("Pairing B102", "h1") and person.sees("Who may fly as captain?", "main"))
+        person.calm()
+        hold("")
+        seen.expect("of a book of last year the month isn't known", [person.sees("Reading the book…", "main"), person.text("h1")], [True, ""])
+        person.relay.held.set()
+        seen.expect("until all is read", person.sees("June 2025", "h1"))
+        person.calm()
+        added = visitor.execute_cdp_cmd("Page.addScriptToEvaluateOnNewDocument", {"source": ON_25_JUNE})
+        hold("")
+        seen.expect("of a book of this month it is", person.sees("June 2025", "h1") and person.js(counts), ["…", "…"])
+        visitor.execute_cdp_cmd("Page.removeScriptToEvaluateOnNewDocument", added)
+        person.relay.held.set()
+        person.calm()
+
+
+def try_messages(seen, visitor):
+    """One message of what was done, and one of what was refused, where nothing stands that is worked on; Esc and a button close them."""
+    book = seen.book(OFFICE)
+    covered = """
+        const boxes = [...document.querySelectorAll('.told')].map(it => it.getBoundingClientRect()).filter(it => it.width);
+        const meets = (a, b) => a.left < b.right && b.left < a.right && a.top < b.bottom && b.top < a.bottom;
+        return [...document.querySelectorAll(arguments[0])].filter(it => boxes.some(box => meets(it.getBoundingClientRect(), box))).length;
+    """
+    with at_desk(seen, visitor, book) as person:
+        person.open("board/2025-06-01/month+pairing/B103")
+        person.press("Assign Bo Lind", "#panel")
+        seen.expect("done", person.sees("Bo Lind (C2) flies B103.", "#told"))
+        seen.expect("it covers nothing", person.js(covered, "nav a, .tools > *, main a, main button, main input, #panel *"), 0)
+        for crew in ("C1", "C1"):
+            person.drag("B102", crew)
+            person.drop()
+            seen.expect("refused", person.sees("Ada Ray (C1) was not assigned to B102:", "#told"))
+            person.calm()
+        seen.expect("one of each kind", person.wait(lambda: person.text("#told").count("B102:") == 1))
+        seen.expect("it covers nothing of the lanes, nor of the panel", person.js(covered, "#lanes, #panel"), 0)
+        person.type(person.key.ESCAPE)
+        seen.expect("Esc closes them", [person.text("#told"), "Pairing B103" in person.text("#panel")], ["", True])
+        person.press("Release Bo Lind", "#panel")
+        person.press("Close the message", "#told")
+        seen.expect("the button closes it", person.text("#told"), "")
+        person.type(person.key.ESCAPE)
+        seen.expect("Esc closes the panel then", person.wait(lambda: person.text("#panel") == ""))
+        person.size(NARROW)
+        person.drag("B102", "C1")
+        person.drop()
+        seen.expect("on a phone", person.sees("Ada Ray (C1) was not assigned to B102:", "#told"))
+        seen.expect("it covers no lane, and no screen's name", person.js(covered, "#lanes, nav a"), 0)
+
+
+def try_beside(seen, visitor):
+    """With a panel open nothing of a member's screen lies over another part; on a phone the clock can be read, and a field is seen."""
+    book = seen.book(OFFICE + LATE)
+    apart = """
+        const [roster, more] = [...document.querySelector('.two').children], right = Math.max(...[...roster.querySelectorAll('*')].map(it => it.getBoundingClientRect().right));
+        return right <= more.getBoundingClientRect().left || roster.getBoundingClientRect().bottom <= more.getBoundingClientRect().top;
+    """
+    whole = """
+        const clock = document.getElementById('clock'), alone = clock.parentNode.appendChild(clock.cloneNode());
+        alone.append(new Option(clock.selectedOptions[0].text));
+        alone.style = 'position: fixed; width: max-content; max-width: none';
+        const wanted = alone.offsetWidth;
+        alone.remove();
+        return clock.offsetWidth >= wanted;
+    """
+    with at_desk(seen, visitor, book) as person:
+        person.open("member/C1")
+        for width in (1440, 1300, 1240, 1100):
+            person.size((width, 900))
+            for panel in ("", "+pairing/B101"):
+                person.go(f"member/C1{panel}")
+                seen.expect(f"{width} px {panel}", [person.sees("B101/1", "main"), person.js(apart)], [True, True])
+        person.size(NARROW)
+        person.go("members")
+        for clock in ("HOME time", "UTC"):
+            person.fill("Clock", clock, "header")
+            seen.expect(f"all of {clock}", person.js(whole))
+        last = "const all = [...document.querySelectorAll('main input, main select')].filter(it => it.checkVisibility()), it = all.at(-1);"
+        person.js(last + "scrollTo(0, 0); it.focus();")
+        seen.expect("the field above the screens' names", person.wait(lambda: person.js(last + "return it.getBoundingClientRect().bottom <= document.querySelector('nav').getBoundingClientRect().top")))
+
+
 def try_paper(seen, visitor):
     """A roster and the exceedances are printed, without controls."""
     book = seen.book(OFFICE + "fly B101 1 10: 17:00 | 18:00-19:45, +1 03:30-+1 05:15 | +1 05:45\n")
@@ -1261,6 +1430,25 @@ def try_paper(seen, visitor):
             seen.expect("no link to a list on it", "List" in person.text("#lanes"), False)
             seen.expect(f"no controls on it: {where}", person.js("return [...document.querySelectorAll('nav, .tools, select, main > .line button')].filter(it => it.checkVisibility()).length"), 0)
             visitor.execute_cdp_cmd("Emulation.setEmulatedMedia", {"media": ""})
+        person.open("exceedances")
+        person.fill("members", "C1")
+        seen.expect("the filter of a list, on paper", printed(person), "Only member C1 Ada Ray. Printed")
+        person.fill("sections", "117.13(a)")
+        person.fill("months", "June")
+        seen.expect("all filters", printed(person), "Only member C1 Ada Ray, section 117.13(a), June 2025. Printed")
+        person.go("board/2025-06-01/month")
+        seen.expect("no filter", printed(person), "Roster, June 2025, UTC")
+        person.press("Captains", "main")
+        person.fill("Filter members", "Roy")
+        seen.expect("the filter of the board, on paper", printed(person), "Roster, June 2025, UTC. Only captains, “roy”: 1 of 5 members")
+
+
+def printed(person):
+    """What the head of the print says, but for when."""
+    person.visitor.execute_cdp_cmd("Emulation.setEmulatedMedia", {"media": "print"})
+    text = person.text(".printonly")
+    person.visitor.execute_cdp_cmd("Emulation.setEmulatedMedia", {"media": ""})
+    return re.sub(r"(?<=Printed) .*", "", text)
 
 
 IN_BROWSER = {
@@ -1268,7 +1456,7 @@ IN_BROWSER = {
     "by_hand": try_by_hand,
     "names": try_names, "phone": try_phone, "rests": try_rests, "drag": try_drag, "seats": try_seats, "requests": try_requests, "two_desks": try_two_desks, "changes": try_changes,
     "lost_answer": try_lost_answer, "numbers": try_numbers, "room": try_room, "markup": try_markup, "clocks": try_clocks, "zones": try_zones, "keys": try_keys, "screens": try_screens,
-    "inspector": try_inspector, "paper": try_paper,
+    "inspector": try_inspector, "within": try_within, "paper": try_paper, "early": try_early, "messages": try_messages, "beside": try_beside,
 }  # fmt: skip
 
 

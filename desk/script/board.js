@@ -92,7 +92,7 @@ export function boardScreen([day, zoom], stop) {
     readBoard(view, stop).then(() => { if (!stop.aborted) drawAll(); }).catch(unlessLost);
     setTabStop();
   });
-  return [controls(title), h('p.printonly', `Roster, ${title}, ${clockName()}`), grid,
+  return [controls(title), h('p.printonly', `Roster, ${title}, ${clockName()}`, h('b', { id: 'chosen' })), grid,
     h('div.legend', LEGEND.map(([kind, text]) => h('span', { class: kind }, h('i'), text)), h('span.bad', '▲ exceeded a limit'),
       h('span', h('b.good', '✓ '), 'may fly the pairing that is chosen'))];
 }

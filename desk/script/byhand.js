@@ -5,7 +5,7 @@ import { go } from './address.js';
 import { h } from './dom.js';
 import { iso } from './instants.js';
 import { tell } from './messages.js';
-import { repeated, upper } from './pieces.js';
+import { ID_RULE, repeated, upper } from './pieces.js';
 import { UNREAD, areRead, timeField } from './timefield.js';
 
 const REST = 10 * 60;  // before a period's report, as it is guessed
@@ -40,6 +40,7 @@ export function byHand() {
     const pairing = upper(id);
     if (await act({ do: 'add-pairing', pairing, periods: periods.list.map(planOf) })) go('pairing/' + pairing);
   }
-  const form = h('form.stack', { onsubmit: add, oninput: read }, h('div.fields', h('label', 'Pairing', id)), periods.box, h('div', h('button.main', 'Add pairing')));
+  const form = h('form.stack', { onsubmit: add, oninput: read }, h('div.fields', h('label', 'Pairing', id)),
+    h('p.soft.small', ID_RULE), periods.box, h('div', h('button.main', 'Add pairing')));
   return h('details.card', h('summary', 'Write one pairing by hand'), form);
 }

@@ -19,9 +19,10 @@ const overlap = clash => ({ ok: false, tag: 'overlap', text: `${clash ? dutyText
 
 // How near a member would be to the limits.
 function nearness(limits) {
-  const of = section => limits.find(it => it.section === section).minutes, rest = of('117.25(e)');
-  const text = `28 d ${hm(of('117.23(b)(1)') ?? 0)} of 100 · 7 d ${hm(of('117.23(c)(1)') ?? 0)} of 60${rest == null ? '' : ` · rest ${restText(rest)}`}`;
-  return { ok: true, month: of('117.23(b)(1)') ?? 0, text };
+  const of = section => limits.find(it => it.section === section), used = ({ minutes, limit }) => `${hm(minutes ?? 0)} of ${hm(limit)}`;
+  const month = of('117.23(b)(1)'), rest = of('117.25(e)').minutes, least = rest == null ? '' : `, least rest ${restText(rest)}`;
+  const text = `With it: flight in 28 days ${used(month)}, flight duty in 7 days ${used(of('117.23(c)(1)'))}${least}`;
+  return { ok: true, month: month.minutes ?? 0, text };
 }
 const beyond = limits => ({ ok: false, tag: limits.map(it => it.section).join(' '), text: limits.map(limitText).join('; ') });
 

@@ -31,12 +31,22 @@ const isChosen = it => (!chosen.crew || it.crew === chosen.crew) && (!chosen.sec
 
 // By how much the limit is exceeded by the times now, if that can be told: a report has what is nearest of a pairing's periods, or of all
 // that the member has done.
-async function amountOf(it, stop) {
+export async function amountOf(it, stop) {
   const of = list => list.find(one => one.section === it.section), limit = of(await reading.limits(it.crew, it.pairing, 2, stop));
-  if (it.pairing) return isRest(it.section) || !limit.duty || limit.duty === it.name ? excess(limit, it.name) : '';
+  if (it.pairing) return isRest(it.section) || !limit.duty || limit.duty === it.name ? excess(limit, it.name) : { text: '' };
   const duties = await rosterOf(it.crew, 2, stop), duty = duties.find(other => other.key === it.key);
   if (isRest(it.section)) return excess(nearestRest(limit, duties, duty), it.name);
-  return meets(limit, duty) ? excess(limit) : `limit ${hm(limit.limit)}`;
+  return meets(limit, duty) ? excess(limit) : { text: `limit ${hm(limit.limit)}` };
+}
+// Whether all that a duty exceeded is within its limit now: then `calm` is called.
+export function ifWithin(duty, sections, stop, calm) {
+  const { crew, kind, key, id, name } = duty, of = section => amountOf({ crew, kind, key, name, section, pairing: kind === 'pairing' && id }, stop);
+  Promise.all(sections.map(of)).then(list => { if (list.length && list.every(it => it.isWithin)) calm(); }).catch(unlessLost);
+}
+// A note of what stands on record, once all of it is within now.
+export function calm(note) {
+  note.classList.remove('bad');
+  note.append(h('p.soft', 'On record; by the times now it is within.'));
 }
 
 // A number, and once it is pressed what is kept under it.
@@ -50,7 +60,10 @@ function exceedanceRow(it, amount) {
   const name = it.pairing ? h('a', { href: `#/exceedances+pairing/${it.pairing}` }, it.name)
     : h('span', h('a', { href: `#/exceedances+outside/${it.crew}/${it.id}` }, it.id), ' (other airline)');
   const cell = (label, text) => h('td.num', { column: label }, text);
-  amount(it).then(text => fill(much, text)).catch(unlessLost);
+  amount(it).then(({ text, isWithin }) => {
+    fill(much, text);
+    much.classList.add(isWithin ? 'soft' : 'bad');
+  }).catch(unlessLost);
   return h('tr', h('td', memberLink(it.crew)), h('td', { column: 'Limit' }, h('span', h('b', it.section), ` ${limitName(it.section)}`)), much,
     h('td', { column: 'Duty' }, name),
     cell('Report', duty && dated(duty.begin)), cell('Times now', duty && `FDP ${hm(duty.fdp)}, flight ${hm(duty.flight)}`),
@@ -71,6 +84,9 @@ function sorter(order, text, draw) {
 function picker(key, options, label, draw) {
   return select([['', `all ${label}`], ...options], chosen[key], { label, onchange: e => { chosen[key] = e.target.value; draw(); } });
 }
+// The choice, for a print.
+const choiceInWords = () => [chosen.crew && `member ${chosen.crew} ${nameOf(chosen.crew)}`, chosen.section && `section ${chosen.section}`,
+  chosen.month && monthName(+chosen.month)].filter(Boolean).join(', ');
 function filters(draw) {
   const crews = [...new Set(known.exceedances.map(it => it.crew))].sort(), sections = SECTIONS.filter(s => known.exceedances.some(it => it.section === s));
   const months = [...new Set(known.exceedances.map(beginOf).filter(Boolean).map(monthOf))].sort((a, b) => a - b);
@@ -85,10 +101,11 @@ function exceedanceTable(body, draw) {
 }
 
 export function exceedancesScreen(_, stop) {
-  const body = h('tbody'), told = h('span.soft', { role: 'status' }), choices = h('span.line'), amounts = new Map();
+  const body = h('tbody'), told = h('span.soft', { role: 'status' }), choices = h('span.line'), amounts = new Map(), choice = h('b');
   const amount = it => amounts.get(it) ?? amounts.set(it, amountOf(it, stop)).get(it);
   function draw() {
     const list = inOrder(known.exceedances.filter(isChosen));
+    choice.textContent = choiceInWords() && `Only ${choiceInWords()}. `;
     told.textContent = `${list.length} of ${known.exceedances.length} on record · ${clockName()}`;
     fill(body, list.map(it => exceedanceRow(it, amount)));
   }
@@ -100,7 +117,7 @@ export function exceedancesScreen(_, stop) {
     h('div.line', h('h1', { tabindex: -1 }, 'Exceedances'), told, h('span.line.push.noprint', choices, h('button', { onclick: () => print() }, 'Print'))),
     h('p.soft.small', 'Limits of 14 CFR Part 117 that flown times, or flying for another airline, exceeded when they were entered. ',
       'A record stays, also if the times are corrected; by how much is told of the times now.'),
-    h('p.printonly', `Printed ${dated(now(), 'UTC')} UTC, from the roster book at ${location.host}`),
+    h('p.printonly', choice, `Printed ${dated(now(), 'UTC')} UTC, from the roster book at ${location.host}`),
     known.exceedances.length ? exceedanceTable(body, draw) : empty('No exceedance is on record.'),
   ];
 }

@@ -19,6 +19,7 @@ export function setTabStop() {
   const grid = $('grid'), first = grid?.querySelector('.row:not([hidden]) .who, .duty');
   if (first && !grid.querySelector('[tabindex="0"]')) first.tabIndex = 0;
 }
+export const enterGrid = () => focusOn($('grid').querySelector('[tabindex="0"]'));
 function otherRow(row, n) {
   const rows = all('.row:not([hidden]), .lanes', $('grid'));
   return rows[rows.indexOf(row) + n] ?? row;

@@ -6,15 +6,15 @@ import { fill, h } from './dom.js';
 import { plural } from './instants.js';
 import { pairingOf, readAgain } from './known.js';
 import { tell } from './messages.js';
-import { table } from './pieces.js';
+import { ID_RULE, table } from './pieces.js';
 import { explained, wrongOf } from './refusals.js';
-import { HEADER, commandOf, faultOf, readSchedule, sheetsOf } from './schedule.js';
+import { EXAMPLE, HEADER, commandOf, faultOf, readSchedule, sheetsOf } from './schedule.js';
 import { checks, sendSchedule } from './sending.js';
 
 const PAIRINGS_SHOWN = 2000, FAULTS_SHOWN = 20;  // rows
 const OF_A_PAIRING = [16, 17, 19];  // refusals
 
-const recordName = record => `Record ${record.line} (${record[0]})`;
+const recordName = record => `Record ${record.line}${record[0].trim() && ` (${record[0]})`}`;
 
 // Why the book doesn't read a record of a pairing: a text, or what it answers to the pairing alone.
 async function whyNot(record, pairing) {
@@ -36,11 +36,12 @@ function stateOf({ id, begin, end }) {
 // What was read, with a button that hands it in.
 function preview({ pairings, faults }) {
   const cells = new Map(pairings.map(it => [it, h('td', stateOf(it))]));
-  const skip = h('input', { type: 'checkbox', checked: true, onchange: count }), button = h('button.main', { onclick: handIn });
+  const skip = h('input', { type: 'checkbox', checked: true, onchange: count }), button = h('button.main', { onclick: handIn }), whyNone = h('span.soft.small');
   const chosen = () => pairings.filter(it => !(skip.checked && pairingOf(it.id)));
   function count() {
     button.textContent = `Import ${plural(chosen().length, 'pairing')}`;
-    button.disabled = !chosen().length || faults.length > 0;
+    whyNone.textContent = faults.length ? 'correct first what can’t be read' : chosen().length ? '' : 'the book has them all already';
+    button.disabled = whyNone.textContent !== '';
   }
   function mark(it, isGood, text) {
     fill(cells.get(it), h('span', { class: isGood ? 'good' : 'bad' }, text));
@@ -70,13 +71,14 @@ function preview({ pairings, faults }) {
     }
     if (done) tell(done === all, `${done < all ? `${done} of ` : ''}${plural(all, 'pairing')} imported.`);
     await readAgain();
+    count();
   }
   const row = it => h('tr', h('td', it.id), h('td.num', { column: 'Report' }, when(it.begin)),
     h('td.num', { column: 'Release' }, when(it.end)),
     h('td.num', { column: 'Periods' }, it.periods.size), h('td.small', { column: 'Route' }, it.ports.join('–')), cells.get(it));
   count();
   return [
-    h('div.line', h('h2', `${plural(pairings.length, 'pairing')} read`), button,
+    h('div.line', h('h2', `${plural(pairings.length, 'pairing')} read`), button, whyNone,
       pairings.some(it => pairingOf(it.id)) && h('label.small', skip, ' leave out those that the book has already')),
     faults.length > 0 && h('div.note.bad', { role: 'alert' }, h('b', `${plural(faults.length, 'record')} can’t be read`),
       faults.slice(0, FAULTS_SHOWN).map(([record, text]) => h('p', `${recordName(record)}: ${text}.`))),
@@ -87,6 +89,10 @@ function preview({ pairings, faults }) {
 const unread = text => h('div.note.bad', { role: 'alert' }, h('b', 'This is no schedule. '),
   /^[^\n]*[;\t]/.test(text) && 'Its fields are not between commas: save it as comma separated values. ',
   'Its first line must be', h('p', h('code', HEADER)));
+
+const example = () => h('details.card', h('summary', 'What a schedule looks like'), h('pre', `${HEADER}\n${EXAMPLE}`),
+  h('p.small', `The first line is as above; then a line for each segment, with the times in UTC. Lines of one pairing follow one another. ${ID_RULE} `,
+    'Flights and airports have only A-Z and 0-9.'));
 
 export function importScreen() {
   const out = h('div.stack');
@@ -106,5 +112,5 @@ export function importScreen() {
   const over = isOver => e => { e.preventDefault(); drop.classList.toggle('over', isOver); };
   const drop = h('div.drop', { ondragover: over(true), ondragleave: over(false), ondrop: e => { over(false)(e); read(e.dataTransfer.files[0]); } },
     h('p', 'Drop a schedule here, a CSV file with a line for each segment, or choose it: ', file), h('details', h('summary', 'or paste it'), area));
-  return [h('h1', { tabindex: -1 }, 'Import a schedule'), drop, out, byHand()];
+  return [h('h1', { tabindex: -1 }, 'Import a schedule'), drop, example(), out, byHand()];
 }

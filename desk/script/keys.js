@@ -2,8 +2,10 @@
 
 import { go } from './address.js';
 import { $, h } from './dom.js';
+import { enterGrid } from './gridkeys.js';
 import { now } from './instants.js';
 import { readAgain } from './known.js';
+import { closeMessages } from './messages.js';
 import { isOnBoard, leavePanel } from './screens.js';
 import { journal } from './sending.js';
 import { goTo, zoomTo } from './view.js';
@@ -12,8 +14,8 @@ const SENT = 8;  // commands that are told
 const SCREEN_KEYS = { b: 'board', o: 'open', e: 'exceedances', m: 'members', i: 'import' };
 const ZOOM_KEYS = { 1: 'week', 2: 'fortnight', 3: 'month' };
 const KEYS = [
-  ['/', 'find a member or a pairing'], ['b o e m i', 'board, open pairings, exceedances, members, import'],
-  ['← → ↑ ↓', 'on the board: from duty to duty'], ['Enter', 'open the duty'], ['Esc', 'close the panel, stop dragging'],
+  ['/', 'find a member, a pairing or a flight'], ['b o e m i', 'board, open pairings, exceedances, members, import'],
+  ['← → ↑ ↓', 'on the board: from duty to duty'], ['Enter', 'open the duty'], ['Esc', 'close the message, then the panel; stop dragging'],
   ['Page Up, Page Down', 'on the board: earlier, later'], ['1 2 3', 'on the board: week, two weeks, month'], ['t', 'on the board: today'],
   ['u', 'UTC, or the time of a base'], ['r', 'read the book again'], ['?', 'this help'],
 ];
@@ -41,8 +43,12 @@ function press(key, nextClock) {
 export function listenToKeys(nextClock) {
   addEventListener('keydown', e => {
     if (e.ctrlKey || e.metaKey || e.altKey || document.querySelector('dialog[open]')) return;
-    if (e.key === 'Escape' && !$('panel').hidden) return leavePanel();
+    if (e.key === 'Escape' && !closeMessages() && !$('panel').hidden) return leavePanel();
     if (e.target.matches('input, select, textarea')) return;
+    if (isOnBoard() && e.key.startsWith('Arrow') && e.target.matches('body, main, h1')) {
+      e.preventDefault();
+      return enterGrid();
+    }
     if (e.key === '/') { e.preventDefault(); $('find').focus(); } else press(e.key, nextClock);
   });
 }

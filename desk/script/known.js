@@ -7,13 +7,15 @@ import { reading } from './reading.js';
 export const SEATS = ['captain', 'first officer'];
 export const known = {
   bases: [], members: [], pairings: [], exceedances: [],
+  isListed: false,  // whether all pairings and exceedances are read; before, there are the open pairings of the board alone
   board: {},  // the duties of all members in some days, if they are read: from when, to when, and by member
   rosters: new Map(),  // all duties of a member, once they were asked for
   details: new Map(),  // a pairing with its segments, once it was asked for
   count: NaN,  // how many requests the book kept before all that was read
-  window() {},  // the days that the board shows, if it is shown
+  window() {},  // the days to read for the board, if it is shown, and those that it shows; `isSure` if all pairings wouldn't choose others
   recount() {},  // the numbers in the head
-  redraw(held) {},  // the screen and the panel, but for one that has such a thing in it
+  begin() {},  // the first drawing
+  redraw(held, isAnew) {},  // the screen and the panel, but for one that has such a thing in it; if not anew, what waited for the lists
 };
 
 let members = new Map(), pairings = new Map(), exceeded = new Map();
@@ -23,21 +25,32 @@ export const pairingOf = id => pairings.get(id);
 export const exceededBy = duty => exceeded.get(`${duty.crew} ${duty.key}`) ?? [];  // the sections
 
 const byKey = (list, key) => new Map(list.map(it => [it[key], it]));
-async function readLists() {
-  const [count, plans, exceedances] = await Promise.all([reading.count(1), reading.pairings(1), reading.exceedances(1)]);
-  plans.sort((a, b) => a.begin - b.begin || (a.pairing < b.pairing ? -1 : 1));
-  Object.assign(known, { pairings: plans, exceedances });
-  [pairings, exceeded] = [byKey(plans, 'pairing'), new Map()];
+// Reads the board, if it is shown, or the members; then the lists, which take longer: the first time the board is drawn before them.
+async function readBook() {
+  const count = await reading.count(1), days = known.window();
+  take(await (days ? reading.board(days, 1) : reading.members(1)));
+  if (known.window()?.isSure !== false) known.begin();
+  const [plans, exceedances] = await Promise.all([reading.pairings(1), reading.exceedances(1)]);
+  takePairings(plans);
+  exceeded = new Map();
   for (const { crew, key, section } of exceedances) {
     exceeded.set(`${crew} ${key}`, [...new Set([...exceededBy({ crew, key }), section])]);
   }
-  const days = known.window();
-  take(await (days ? reading.board(days, 1) : reading.members(1)));
+  Object.assign(known, { exceedances, isListed: true });
+  const others = known.window();
+  if (others && !hasRead(others)) take(await reading.board(others, 1));
   known.count = count;
+  known.recount();
+  known.begin();
 }
-function take({ bases, members: people, board = {} }) {
+function takePairings(plans) {
+  known.pairings = plans.sort((a, b) => a.begin - b.begin || (a.pairing < b.pairing ? -1 : 1));
+  pairings = byKey(plans, 'pairing');
+}
+function take({ bases, members: people, board = {}, open = [] }) {
   Object.assign(known, { bases, members: people, board });
   members = byKey(people, 'crew');
+  if (!known.isListed) takePairings(open);
   setZones(bases);
   known.recount();
 }
@@ -67,14 +80,17 @@ export async function clashOf(crew, others, given, signal) {
 export const UNSENT = '[data-typed]:not([data-sent] *)';
 export const IN_USE = '[data-typed], .flown-form, .extra > *, [open]:not(section > *), section > [type=search]:not(:placeholder-shown)';
 
-// Reads the lists again, and draws the page anew. What else was read is forgotten; but if only `own` commands were done meanwhile, just that
+let isFirst = true;  // (what the first reading draws before the lists isn't drawn again behind them)
+
+// Reads the book again, and draws the page anew. What else was read is forgotten; but if only `own` commands were done meanwhile, just that
 // of the members and pairings which they touched.
 export async function readAgain({ held = '[data-typed]', own, touched } = {}) {
-  const before = known.count;
+  const before = known.count, isAnew = !isFirst;
+  isFirst = false;
   try {
-    await readLists();
+    await readBook();
     for (const read of [known.rosters, known.details]) for (const id of known.count - before === own ? touched : read.keys()) read.delete(id);
-    await known.redraw(held);
+    await known.redraw(held, isAnew);
   } catch (why) { unlessLost(why); }
 }
 

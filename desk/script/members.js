@@ -4,7 +4,7 @@ import { act } from './acting.js';
 import { $, h } from './dom.js';
 import { known } from './known.js';
 import { tell } from './messages.js';
-import { empty, link, select, table, upper } from './pieces.js';
+import { ID_RULE, empty, link, select, table, upper } from './pieces.js';
 import { RULES, shownAt17, zoneOf } from './zones.js';
 
 const OTHER = '?', RULE_EXAMPLE = 'CET-1CEST,M3.5.0,M10.5.0/3';
@@ -20,7 +20,7 @@ function memberForm() {
   }
   return h('form.card', { onsubmit: add }, h('h2', 'Add a member'),
     h('div.fields', h('label', 'Id', id), h('label', 'Name', name), h('label', 'Seat', seat), h('label', 'Base', base)),
-    h('p.soft.small', 'Id, seat, name and base can’t be changed. Tables A and B go by the clock of the base.'),
+    h('p.soft.small', ID_RULE, ' Id, seat, name and base can’t be changed. Tables A and B go by the clock of the base.'),
     h('div', h('button.main', 'Add member')));
 }
 

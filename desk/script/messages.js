@@ -1,14 +1,25 @@
-// Messages in the corner: what was done, and what was refused.
+// Messages in the head of the page: what was done, and what was refused. The newest of either stands, until it is closed.
 
 import { $, all, h } from './dom.js';
 
-const MOST = 4, READABLE = 12_000;  // messages at once; milliseconds for one of what was done
+const READABLE = 12_000;  // milliseconds of what was done
+const COMMON = '.told:not(#lost)';
 
-export function tell(isGood, title, ...parts) {
-  if (isGood) for (const old of all('.told.no:not(#lost)')) old.remove();
-  const close = h('button.link.push', { label: 'Close the message', onclick: () => box.remove() }, '✕');
-  const box = h('div', { class: isGood ? 'told' : 'told no', role: isGood ? 'status' : 'alert' }, h('div.line', h('b', title), close), parts);
+// One more message, which takes no other away.
+export function tellAlso(isGood, title, ...parts) {
+  const close = h('button.link.push', { label: 'Close the message', title: 'Close (Esc)', onclick: () => box.remove() }, '✕');
+  const isButton = it => it?.tagName === 'BUTTON', box = h('div', { class: isGood ? 'told' : 'told no', role: isGood ? 'status' : 'alert' },
+    h('div.line', h('b', title), parts.filter(isButton), close), parts.filter(it => !isButton(it)));
   $('told').append(box);
-  for (const old of all('.told:not(#lost)').slice(0, -MOST)) old.remove();
   if (isGood) setTimeout(() => box.remove(), READABLE);
+}
+export function tell(isGood, ...parts) {
+  closeMessages(isGood ? COMMON : COMMON + '.no');
+  tellAlso(isGood, ...parts);
+}
+// Whether there were any.
+export function closeMessages(css = COMMON) {
+  const list = all(css);
+  for (const it of list) it.remove();
+  return list.length > 0;
 }

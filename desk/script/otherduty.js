@@ -5,6 +5,7 @@ import { closePanel } from './address.js';
 import { unlessLost } from './asking.js';
 import { clockName, until, when } from './clock.js';
 import { fill, h } from './dom.js';
+import { calm, ifWithin } from './exceeded.js';
 import { hm, iso } from './instants.js';
 import { exceededBy, rosterOf } from './known.js';
 import { tell } from './messages.js';
@@ -59,12 +60,14 @@ function cancellingOf({ id, crew, begin, end, task }) {
 const segmentTable = duty => table('.small.num', `Segments of ${duty.id}`, ['Segment', 'Out', 'In', 'Block'],
   duty.segments.map((s, n) => cellsOf(n + 1, until(duty.begin, s.out), until(duty.begin, s.in), hm(s.in - s.out))));
 
-function partsOf(duty) {
+function partsOf(duty, stop) {
   const isGround = duty.kind === 'ground', sections = exceededBy(duty);
+  const note = h('div.note.bad', sections.map(it => h('p', h('b', it), ` ${limitName(it)}`)));
+  ifWithin(duty, sections, stop, () => calm(note));
   return [
     h('h2', { tabindex: -1 }, isGround ? h('bdi', duty.task) : 'Flying for another airline'), h('p', duty.id, ' · ', memberLink(duty.crew)),
     h('p.num', `${when(duty.begin)} – ${when(duty.end)}`, !isGround && ` · FDP ${hm(duty.fdp)} · flight ${hm(duty.flight)}`, ` · ${clockName()}`),
-    sections.length > 0 && h('div.note.bad', sections.map(it => h('p', h('b', it), ` ${limitName(it)}`))),
+    sections.length > 0 && note,
     isGround ? cancellingOf(duty) : [segmentTable(duty), h('p.soft.small', 'Nothing removes it.'),
       h('details.card', h('summary', 'Correct its times'), outsideForm(duty.crew, duty))],
   ];
@@ -73,7 +76,7 @@ export function otherDuty(kind, crew, id, stop) {
   const box = h('div.stack', pending());
   rosterOf(crew, 0, stop).then(duties => {
     const duty = duties.find(it => it.kind === kind && it.id === id);
-    fill(box, duty ? partsOf(duty) : [h('h2', id), h('p', 'It is not in the book.')]);
+    fill(box, duty ? partsOf(duty, stop) : [h('h2', id), h('p', 'It is not in the book.')]);
   }).catch(unlessLost);
   return box;
 }

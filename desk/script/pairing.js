@@ -6,6 +6,7 @@ import { unlessLost } from './asking.js';
 import { candidates } from './candidates.js';
 import { clockName, days, until, when } from './clock.js';
 import { fill, h } from './dom.js';
+import { calm, ifWithin } from './exceeded.js';
 import { flownForm } from './flown.js';
 import { hm, signed } from './instants.js';
 import { SEATS, detailOf, exceededBy, freeSeats, nameOf, pairingOf } from './known.js';
@@ -30,15 +31,17 @@ function periodTable(it, period) {
     ['Flight', 'From', 'Out', 'To', 'In', 'Block'], edge('Report', now.report, plan.report), plan.segments.map(row), edge('Release', now.release, plan.release)));
 }
 
-function recordedOf(it, period) {
-  const lines = SEATS.flatMap(seat => {
-    const crew = it.seats[seat], sections = exceededBy({ crew, key: `pairing ${it.pairing}/${period.period}` });
-    return sections.map(section => h('p', h('b', section), ` ${limitName(section)}: `, h('bdi', nameOf(crew)), ` (${crew})`));
+function recordedOf(it, period, stop) {
+  const name = `${it.pairing}/${period.period}`, duty = { kind: 'pairing', id: it.pairing, name, key: `pairing ${name}` };
+  return SEATS.map(seat => {
+    const crew = it.seats[seat], sections = exceededBy({ ...duty, crew });
+    const note = h('div.note.bad', sections.map(section => h('p', h('b', section), ` ${limitName(section)}: `, h('bdi', nameOf(crew)), ` (${crew})`)));
+    ifWithin({ ...duty, crew }, sections, stop, () => calm(note));
+    return sections.length > 0 && note;
   });
-  return lines.length > 0 && h('div.note.bad', lines);
 }
 
-function periodCard(it, period) {
+function periodCard(it, period, stop) {
   const isCrewed = !freeSeats(it).length;
   const toggle = () => {
     const old = card.querySelector('form'), form = old ? null : flownForm(it, period);
@@ -47,7 +50,7 @@ function periodCard(it, period) {
   };
   const card = h('section.card', { label: `Period ${period.period}` },
     h('div.line.end', h('h3', `Period ${period.period} `, tag(period.flown)), h('span.num', `FDP ${hm(period.fdp)} · flight ${hm(period.flight)}`)),
-    recordedOf(it, period), periodTable(it, period),
+    recordedOf(it, period, stop), periodTable(it, period),
     h('div.line.noprint',
       h('button', { key: `fly ${period.period}`, disabled: !isCrewed, onclick: toggle },
         period.flown ? 'Correct flown times' : 'Enter flown times'),
@@ -85,8 +88,8 @@ function parts(it, stop, heading) {
     h('div.line.end', h(heading, { tabindex: -1 }, `Pairing ${it.pairing} `, tag(it.isFlown)),
       h('span.soft.num', `${days(it)} · ${clockName()}`)),
     h('p.num', routeOf(it.periods.map(p => p.plan))), h('ul.plain', SEATS.map(seat => seatLine(it, seat, open))), extra,
-    !it.isFlown && freeSeats(it).map(seat => candidates(it.pairing, seat, stop)), it.periods.map(p => periodCard(it,
-      p)), !it.isFlown && cancelling(it),
+    !it.isFlown && freeSeats(it).map(seat => candidates(it.pairing, seat, stop)), it.periods.map(p => periodCard(it, p, stop)),
+    !it.isFlown && cancelling(it),
   ];
 }
 

@@ -17,6 +17,7 @@ export const table = (css, title, names, ...rows) => h('table' + css, h('caption
   h('thead', h('tr', names.map(name => h('th', { scope: 'col' }, name)))), h('tbody', rows));
 // What is in a field of an id, a flight or an airport: all have capital letters.
 export const upper = field => field.value.trim().toUpperCase();
+export const ID_RULE = 'An id has only A-Z, 0-9 and -, at most 12 of them.';
 export const pending = () => h('p.soft', 'Reading…');
 export const empty = (...parts) => h('p.empty.card', parts);
 

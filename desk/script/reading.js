@@ -43,10 +43,10 @@ export const reading = {
   async pairings(rank) { return (await report('/reports/pairings', rank)).pairings.map(readPairing); },
   async pairing(id, rank, signal) { return readPairing(await report('/pairings/' + id, rank, signal)); },
   async roster(crew, rank, signal) { return dutiesOf(await report('/crew/' + crew, rank, signal)); },
-  // All bases and members, and what each does in some days, of which each duty says what it exceeds.
+  // All bases and members, and what each does in some days, of which each duty says what it exceeds; and the open pairings of these days.
   async board({ from, to }, rank, signal) {
-    const day = m => iso(m).slice(0, 10), { bases, members } = await report(`/board/${day(from)}/${day(to - 1)}`, rank, signal);
-    return { bases, members, board: { from, to, duties: new Map(members.map(it => [it.crew, dutiesOf(it)])) } };
+    const day = m => iso(m).slice(0, 10), { bases, members, open } = await report(`/board/${day(from)}/${day(to - 1)}`, rank, signal);
+    return { bases, members, open: open.map(readPairing), board: { from, to, duties: new Map(members.map(it => [it.crew, dutiesOf(it)])) } };
   },
   // The command that a number is kept under, and its reply; of an import, those of a part.
   async request(number, part) { return (await report('/requests/' + number)).parts.find(it => it.part === part); },

@@ -3,7 +3,7 @@
 
 import { unlessLost } from './asking.js';
 import { clockName, when } from './clock.js';
-import { h } from './dom.js';
+import { all, h } from './dom.js';
 import { at } from './instants.js';
 import { clashOf, detailOf, nameOf, rosterOf } from './known.js';
 import { dutyText } from './pieces.js';
@@ -44,9 +44,20 @@ export const inWords = number => h('p', REFUSALS[number].join(' '));
 
 // The name that a member of the JSON has on the screen.
 const SHOWN = { crew: 'Id', base: 'Id', ground: 'Id', outside: 'Id', segments: 'Out or In', periods: 'Flight, From, To or a time' };
+const TAKEN = { 3: 'crew', 5: 'pairing', 14: 'ground', 21: 'base', 22: 'outside' };  // whose id the refusal of each number is about
+// The name of a field on the screen, and what was typed there, if that can be told.
+function typedIn(field, command) {
+  const isText = typeof command[field] === 'string', name = SHOWN[field] ?? field[0].toUpperCase() + field.slice(1);
+  return field === 'periods' && wrongText(command.periods) || [name, isText ? command[field] : null];
+}
 function fieldName(field, command) {
-  const wrong = field === 'periods' && wrongText(command.periods), text = command[field];
-  return wrong || (SHOWN[field] ?? field[0].toUpperCase() + field.slice(1)) + (typeof text === 'string' ? ` “${text}”` : '');
+  const [name, text] = typedIn(field, command);
+  return name + (text == null ? '' : ` “${text}”`);
+}
+// The field of a form that a refusal is about.
+export function wrongField(answer, command, form) {
+  const field = answer.field ?? TAKEN[answer.refusal], [name, text] = field ? typedIn(field, command) : [];
+  return all('input', form).find(it => it.value.trim().toUpperCase() === text?.trim().toUpperCase() && it.labels[0]?.textContent.startsWith(name));
 }
 const limitLine = (text, section) => h('p.bad', text, h('span.soft', ` (${section})`));
 

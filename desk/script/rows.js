@@ -99,7 +99,10 @@ export function filterRows() {
     row.hidden = !fits(it);
     shown += !row.hidden;
   }
-  if ($('shown')) $('shown').textContent = shown === view.rows.size ? plural(shown, 'member') : `${shown} of ${view.rows.size}`;
+  if (!$('grid')) return;
+  const count = `${shown} of ${view.rows.size}`, words = [view.seat && `${view.seat}s`, word && `“${view.word}”`].filter(Boolean).join(', ');
+  $('shown').textContent = shown === view.rows.size ? plural(shown, 'member') : count;
+  $('chosen').textContent = words && `. Only ${words}: ${count} members`;
 }
 
 // Shows beside a row whether its member may fly the pairing that is looked at.

@@ -32,19 +32,20 @@ function recordsOf(text) {
 const INSTANT = /^\d{4}-\d\d-\d\dT\d\d:\d\d(:00)?Z$/, FLIGHT = /^[A-Z0-9]{1,8}$/, PORT = /^[A-Z0-9]{3,4}$/;
 const WHEN = { test: text => INSTANT.test(text) && !isNaN(at(text)) && iso(at(text)).slice(0, 16) === text.slice(0, 16) };
 const SHAPES = [/^[A-Z0-9-]{1,12}$/, /^([1-9]|10)$/, WHEN, WHEN, FLIGHT, PORT, WHEN, PORT, WHEN];
-const EXAMPLE = 'P1,1,2025-06-10T11:00Z,2025-06-10T20:00Z,RB1,BOS,2025-06-10T12:00Z,IAD,2025-06-10T19:30Z'.split(',');
+export const EXAMPLE = 'P1,1,2025-06-10T11:00Z,2025-06-10T20:00Z,RB1,BOS,2025-06-10T12:00Z,IAD,2025-06-10T19:30Z';
 
 // What is wrong with the texts of a record, or null; if it is only to be shown, with its times.
 export function faultOf(record, isShown) {
+  if (!record.join('').trim()) return 'it is an empty line: take it out';
   if (record.length !== 9) return `it has ${plural(record.length, 'field')}, not nine`;
   const n = record.findIndex((text, k) => (!isShown || SHAPES[k] === WHEN) && !SHAPES[k].test(text));
-  return n < 0 ? null : `${HEADER.split(',')[n]} “${record[n]}” isn’t one such as ${EXAMPLE[n]}`;
+  return n < 0 ? null : `${HEADER.split(',')[n]} “${record[n]}” isn’t one such as ${EXAMPLE.split(',')[n]}`;
 }
-// The flight or airport of a pairing's periods that isn't one.
+// The flight or airport of a pairing's periods that isn't one: the name of its field, and its text.
 export function wrongText(periods) {
   for (const { flight, from, to } of periods.flatMap(p => p.segments))
     for (const [name, text, shape] of [['Flight', flight, FLIGHT], ['From', from, PORT], ['To', to, PORT]])
-      if (!shape.test(text)) return `${name} “${text}”`;
+      if (!shape.test(text)) return [name, text];
 }
 const startOf = record => ({ id: record[0], records: [], begin: at(record[2]), end: 0, ports: [record[5]], periods: new Set() });
 

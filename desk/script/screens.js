@@ -5,6 +5,7 @@ import { boardScreen, todayAt } from './board.js';
 import { chooseClock, zones } from './clock.js';
 import { $, all, fill, h, isPhone, keyed } from './dom.js';
 import { exceedancesScreen } from './exceeded.js';
+import { flightView } from './flights.js';
 import { focusOn } from './gridkeys.js';
 import { importScreen } from './importing.js';
 import { keep, kept } from './kept.js';
@@ -15,6 +16,7 @@ import { membersScreen } from './members.js';
 import { openScreen } from './open.js';
 import { otherDuty } from './otherduty.js';
 import { pairingView } from './pairing.js';
+import { pending } from './pieces.js';
 import { markPanel } from './rows.js';
 import { around, chooseView } from './view.js';
 
@@ -24,9 +26,12 @@ const SCREENS = {
   member: ([crew], stop) => memberView(crew, stop, true, takeMine), pairing: ([id], stop) => pairingView(id, stop, true),
 };
 const PANELS = {
-  pairing: ([id], stop) => pairingView(id, stop), member: ([crew], stop) => memberView(crew, stop),
+  pairing: ([id], stop) => pairingView(id, stop), member: ([crew], stop) => memberView(crew, stop), flight: ([flight]) => flightView(flight),
   ground: ([crew, id], stop) => otherDuty('ground', crew, id, stop), outside: ([crew, id], stop) => otherDuty('outside', crew, id, stop),
 };
+// What can be drawn before the lists are read; all else waits for them.
+const isReady = ([name]) => known.isListed || name === 'board' || name === 'members';  // (no panel)
+const notYet = () => h('h1.waiting', { tabindex: -1 }, 'Reading the book…');
 // What each part of the page shows, and whether that was read anew since it was drawn.
 const shown = { main: {}, panel: {}, from: null };
 export const isOnBoard = () => shown.main.to.startsWith('board');
@@ -60,11 +65,11 @@ export function boardWindow() {
   return around();
 }
 
-function drawScreen([name, ...words], isAnew, stop) {
+function drawScreen([name, ...words], isAnew, stop, hasWaited) {
   const grid = $('grid'), scrolled = grid ? [grid.scrollLeft, grid.scrollTop] : [0, 0], top = scrollY, main = $('main');
-  const isFirst = !document.body.className;
+  const isFirst = !document.body.className || hasWaited;
   document.body.className = name;
-  fill(main, SCREENS[name](words, stop));
+  fill(main, isReady([name]) ? SCREENS[name](words, stop) : notYet());
   const heading = main.querySelector('h1');
   document.title = `${heading.textContent} – Roster book`;
   for (const it of all('nav a')) it.ariaCurrent = it.hash.slice(2).split('/')[0] === name ? 'page' : null;
@@ -91,16 +96,16 @@ function scrollBack(box, top) {
     return last >= top;
   });
 }
-function drawPanel(panel, isAnew, stop) {
+function drawPanel(panel, isAnew, stop, hasWaited) {
   const box = $('panel'), top = isAnew ? box.scrollTop : 0;
   box.hidden = !panel;
   if (!isAnew) clearMarks();
   if (panel) {
     const close = h('button.close', { onclick: leavePanel, label: 'Close the panel', key: 'close' }, '✕');
-    fill(box, close, PANELS[panel[0]](panel.slice(1), stop));
+    fill(box, close, isReady(panel) ? PANELS[panel[0]](panel.slice(1), stop) : h('div.waiting', pending()));
   } else fill(box);
   setTimeout(scrollBack, 0, box, top);
-  if (panel && !isAnew) box.focus({ preventScroll: true });
+  if (panel && !isAnew && !hasWaited) box.focus({ preventScroll: true });
   markPanel();
   for (const it of all('tr.go')) it.setAttribute('aria-selected', !!panel && it.querySelector('a').hash.endsWith('+' + panel.join('/')));
 }
@@ -111,21 +116,21 @@ export function show(isAnew, held = IN_USE) {
   const alike = () => all(focus.tagName).filter(it => it.isEqualNode(focus)), n = alike().indexOf(focus);
   if (panel && panel.join('/') !== shown.panel.to) shown.from = key;
   for (const [id, words, draw] of [['main', screen, drawScreen], ['panel', panel, drawPanel]]) {
-    const part = shown[id], to = words?.join('/'), isOther = to !== part.to;
-    part.isStale ||= isAnew;
+    const part = shown[id], to = words?.join('/'), isOther = to !== part.to, hasWaited = !isOther && !!$(id).querySelector('.waiting');
+    part.isStale ||= isAnew || hasWaited;
     if (!isOther && (!part.isStale || $(id).querySelector(held))) continue;
     part.stop?.abort();
     Object.assign(part, { to, isStale: false, stop: new AbortController() });
-    draw(words, !isOther, part.stop.signal);
+    draw(words, !isOther && !hasWaited, part.stop.signal, hasWaited);
   }
   if (focus === body) return;
   again(() => document.activeElement !== body || (key ? keyed(key) : alike()[n])?.focus({ preventScroll: true }), () => box?.focus());
 }
 // Draws it anew, since the book was read again. What the screen or the panel is of is read before, so that it is there at once.
-export async function redraw(held) {
+export async function redraw(held, isAnew) {
   const { screen, panel } = current();
   await Promise.all([screen, panel ?? []].map(([kind, id]) => kind === 'pairing' ? pairingOf(id) && detailOf(id) : memberOf(id) && rosterOf(id)));
-  show(true, held);
+  show(isAnew, held);
 }
 // Closes the panel, and brings the focus back to where it was opened.
 export function leavePanel() {

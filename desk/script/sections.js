@@ -28,12 +28,13 @@ export function limitText(it) {
   if (kind === 'table') return `${words} of ${it.duty} is ${used}, and may be at most ${limit}`;
   return `${words} ${windowText(it)} is ${used}, and may be at most ${limit}`;
 }
-// By how much a limit is exceeded; of a window from when on, of a rest that isn't before the duty `name` before which one.
+// By how much a limit is exceeded now, or that it isn't; of a window from when on, of a rest that isn't before the duty `name` before which
+// one.
 export function excess(it, name) {
   const rest = isRest(it.section), over = rest ? it.limit - it.minutes : it.minutes - it.limit;
-  if (over <= 0) return `within ${hm(it.limit)} now`;
+  if (over <= 0) return { isWithin: true, text: `within ${hm(it.limit)} now` };
   const where = it.duty !== name && (it.duty ? `before ${it.duty}` : windowText(it));
-  return [hm(over), rest ? 'short of' : 'over', hm(it.limit), where].filter(Boolean).join(' ');
+  return { isWithin: false, text: [hm(over), rest ? 'short of' : 'over', hm(it.limit), where].filter(Boolean).join(' ') };
 }
 
 // Whether a window meets a duty.

@@ -5,6 +5,7 @@ import { beside, go } from './address.js';
 import { chooseClock, clock, zones } from './clock.js';
 import { $, fill, h } from './dom.js';
 import { drawDrag, isDragged } from './drag.js';
+import { pairingsWith } from './flights.js';
 import { focusOn } from './gridkeys.js';
 import { help, listenToKeys } from './keys.js';
 import { UNSENT, known, memberOf, openPairings, pairingOf, readAgain } from './known.js';
@@ -18,8 +19,8 @@ import { watchBook } from './watching.js';
 const FOUND = 3000;  // pairings that the field offers
 
 function drawHead() {
-  $('openCount').textContent = openPairings().length;
-  $('exceededCount').textContent = known.exceedances.length;
+  if (known.isListed) $('openCount').textContent = openPairings().length;
+  if (known.isListed) $('exceededCount').textContent = known.exceedances.length;
   $('exceededCount').classList.toggle('red', known.exceedances.length > 0);
   fill($('clock'), ['UTC', ...zones.keys()].map(base => h('option', { value: base, selected: base === clock.base },
     base === 'UTC' ? 'UTC' : `${base} time`)));
@@ -37,11 +38,14 @@ function nextClock() {
   setClock(all[(all.indexOf(clock.base) + 1) % all.length]);
 }
 function find(text) {
-  const word = text.trim().toUpperCase(), named = word && known.members.find(it => it.name.toUpperCase().includes(word));
+  const word = text.trim().toUpperCase(), flights = pairingsWith(word), named = word && known.members.find(it => it.name.toUpperCase().includes(word));
   if (memberOf(word)) go('member/' + word);
   else if (pairingOf(word)) go('pairing/' + word);
+  else if (flights.length === 1) go('pairing/' + flights[0].pairing);
+  else if (flights.length) location.hash = beside('flight/' + word);
   else if (named) go('member/' + named.crew);
-  else tell(false, `Nothing is named ${word}.`, h('p', 'Type the id of a member or of a pairing, or a part of a name.'));
+  else if (!known.isListed) go('pairing/' + word);
+  else tell(false, `Nothing is named ${word}.`, h('p', 'Type the id of a member or of a pairing, a part of a name, or a flight of the days on the board.'));
 }
 
 function listen() {
@@ -68,15 +72,15 @@ function listen() {
   listenToKeys(nextClock);
 }
 
-// Once the book was read for the first time.
+// Once enough of the book was read for the first time.
 function beginWork() {
-  known.redraw = redraw;
+  known.begin = () => {};
   marks.draw = crew => { drawMark(crew); if (isDragged()) drawDrag(); };
   listen();
   show();
   document.documentElement.dataset.ready = '1';
   sendAgain();
 }
-Object.assign(known, { recount: drawHead, window: boardWindow, redraw: beginWork });
+Object.assign(known, { recount: drawHead, window: boardWindow, begin: beginWork, redraw });
 watchBook();
 readAgain();

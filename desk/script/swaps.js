@@ -1,6 +1,6 @@
 // With whom a member may swap a pairing: those who have the same seat of another one that isn't flown, of the days around.
 
-import { act } from './acting.js';
+import { swap } from './acting.js';
 import { unlessLost } from './asking.js';
 import { when } from './clock.js';
 import { fill, h } from './dom.js';
@@ -26,7 +26,7 @@ export function swaps(it, seat, signal) {
   const commands = plans.map(p => ({ do: 'swap', pairing: it.pairing, crew, other_pairing: p.pairing, other_crew: p.seats[seat] }));
   function row(answer, n) {
     const command = commands[n], { other_crew: otherCrew, other_pairing: other } = command;
-    const button = h('button.main', { label: `Swap: ${phrases(command).words}`, onclick: () => act(command) }, 'Swap');
+    const button = h('button.main', { label: `Swap: ${phrases(command).words}`, onclick: () => swap(command) }, 'Swap');
     return h('li.candidate', h('span', h('bdi', nameOf(otherCrew)), h('span.soft.small', ` ${otherCrew} · ${other} · ${when(plans[n].begin)}`)),
       isAllowed(answer) ? button : h('span.tag.red', why(answer)));
   }

@@ -16,7 +16,7 @@ export const view = {
   seat: '', word: '',  // whose rows
   rows: new Map(),  // of the members that it has
   isSlim() { return this.width / this.days.length < CROWDED; },
-  days: [],
+  days: [], isSure: false,
 };
 export const place = m => (m - view.from) / (view.to - view.from) * 100;  // per cent of the width
 export const isShown = it => it.end > view.from && it.begin < view.to;
@@ -28,13 +28,19 @@ function bestWeek(month) {
   return addDays(day, -((weekday(day) + 6) % 7));
 }
 
+// When pairings begin: all that are listed, or those on the board.
+function beginnings() {
+  const onBoard = known.isListed ? [] : [...known.board.duties?.values() ?? []].flat().filter(it => it.kind === 'pairing');
+  return [...known.pairings, ...onBoard].map(it => it.begin);
+}
 // Takes the days from the address: `2025-06-01/month`.
 export function chooseView(day, zoom) {
   view.zoom = Object.hasOwn(ZOOMS, zoom ?? '') ? zoom : kept('zoom', 'month');
   keep('zoom', view.zoom);
   const [, count] = ZOOMS[view.zoom], [year, month, date] = (day ?? '').split('-').map(Number);
-  const isDay = date && year >= 2000 && year < 2100, first = isDay ? midnight(year, month - 1, date) : bestMonth(known.pairings.map(it => it.begin),
-    now());
+  const isDay = date && year >= 2000 && year < 2100, begins = isDay ? [] : beginnings(), thisMonth = monthOf(now());
+  const first = isDay ? midnight(year, month - 1, date) : bestMonth(begins, now());
+  view.isSure = isDay || known.isListed || begins.some(m => monthOf(m) === thisMonth);
   view.from = !count ? monthOf(first) : isDay ? first : bestWeek(first);
   view.to = count ? addDays(view.from, count) : addMonths(view.from, 1);
   if (!count) view.month = view.from;
@@ -42,7 +48,7 @@ export function chooseView(day, zoom) {
   for (let n = 0; addDays(view.from, n) < view.to; n++) view.days.push(addDays(view.from, n));
 }
 // What is read of the book for it: a day more at both ends, so that it is enough by any clock. The book has no days before 2000.
-export const around = () => ({ from: Math.max(FIRST, view.from - DAY), to: view.to + DAY });
+export const around = () => ({ from: Math.max(FIRST, view.from - DAY), to: view.to + DAY, begin: view.from, end: view.to, isSure: view.isSure });
 export const goTo = (m, zoom = view.zoom) => go(`board/${ymd(m)}/${zoom}`);
 export const step = n => goTo(ZOOMS[view.zoom][1] ? addDays(view.from, n * ZOOMS[view.zoom][1]) : addMonths(view.from, n));
 export function zoomTo(zoom) {
