@@ -1173,7 +1173,7 @@ def try_zones(seen, visitor):
 
 def try_keys(seen, visitor):
     """The desk by the keyboard alone."""
-    book = seen.book(OFFICE)
+    book = seen.book(OFFICE + "plan B104 20: 11:00 | RB77/BOS/IAD 12:00-14:00 | 15:00\nassign B104 C9\nassign B104 F2\n")
     with at_desk(seen, visitor, book) as person:
         key = person.key
         person.open()
@@ -1213,14 +1213,14 @@ def try_keys(seen, visitor):
         person.type("b102", key.ENTER)
         seen.expect("found by the id", person.sees("Pairing B102", "h1"))
         person.type("/")
-        person.type("rb3", key.ENTER)
-        seen.expect("found by a flight", person.sees("Pairing B103", "h1"))
+        person.type("rb77", key.ENTER)
+        seen.expect("found by a flight", person.sees("Pairing B104", "h1"))
         person.go("board/2025-06-01/month")
         person.type("/")
         person.type("rb1", key.ENTER)
         listed = "return [...document.querySelectorAll('#panel li a')].map(it => it.textContent)"
-        seen.expect("several with a flight", person.sees("Flight RB1", "#panel") and person.js(listed), ["B101", "B103"])
-        person.press("B103", "#panel li")
+        seen.expect("several with a flight", person.sees("Flight RB1", "#panel") and person.js(listed), ["B101", "B102", "B103"])
+        person.press("B103", "#panel ul")
         seen.expect("one of them", person.sees("Pairing B103", "#panel h2"))
         person.js("document.activeElement.blur()")
         person.type("?")
@@ -1228,7 +1228,7 @@ def try_keys(seen, visitor):
         seen.expect("what was sent", "Bo Lind (C2) flies B103: accepted" in person.text("dialog"))
         person.type(key.ESCAPE)
         seen.expect("help is closed", person.wait(lambda: person.text("dialog") == ""))
-    seen.expect("the seats", book.seats(), ["B101 C1 F1", "B102 - -", "B103 C2 -"])
+    seen.expect("the seats", book.seats(), ["B101 C1 F1", "B102 - -", "B103 C2 -", "B104 C9 F2"])
 
 
 def try_screens(seen, visitor):
@@ -1440,7 +1440,7 @@ def try_paper(seen, visitor):
         seen.expect("no filter", printed(person), "Roster, June 2025, UTC")
         person.press("Captains", "main")
         person.fill("Filter members", "Roy")
-        seen.expect("the filter of the board, on paper", printed(person), "Roster, June 2025, UTC. Only captains, “roy”: 1 of 5 members")
+        seen.expect("the filter of the board, on paper", printed(person), "Roster, June 2025, UTC. Only captains, “Roy”: 1 of 5 members")
 
 
 def printed(person):

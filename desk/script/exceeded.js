@@ -62,7 +62,7 @@ function exceedanceRow(it, amount) {
   const cell = (label, text) => h('td.num', { column: label }, text);
   amount(it).then(({ text, isWithin }) => {
     fill(much, text);
-    much.classList.add(isWithin ? 'soft' : 'bad');
+    if (isWithin != null) much.classList.add(isWithin ? 'soft' : 'bad');
   }).catch(unlessLost);
   return h('tr', h('td', memberLink(it.crew)), h('td', { column: 'Limit' }, h('span', h('b', it.section), ` ${limitName(it.section)}`)), much,
     h('td', { column: 'Duty' }, name),

@@ -19,9 +19,10 @@ import { watchBook } from './watching.js';
 const FOUND = 3000;  // pairings that the field offers
 
 function drawHead() {
-  if (known.isListed) $('openCount').textContent = openPairings().length;
-  if (known.isListed) $('exceededCount').textContent = known.exceedances.length;
-  $('exceededCount').classList.toggle('red', known.exceedances.length > 0);
+  if (known.isListed) {
+    $('openCount').textContent = openPairings().length;
+    $('exceededCount').textContent = known.exceedances.length;
+  }
   fill($('clock'), ['UTC', ...zones.keys()].map(base => h('option', { value: base, selected: base === clock.base },
     base === 'UTC' ? 'UTC' : `${base} time`)));
   fill($('ids'), known.members.map(it => h('option', { value: it.crew }, it.name)),

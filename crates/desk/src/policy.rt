@@ -2,4 +2,4 @@
 
 /// What a browser lets the page do.
 pub const POLICY: &str =
-    "default-src 'none'; script-src 'sha256-XD+cLPgbs+8u+eZA73G1cEby5v/maoN9OQbVYOA7vhA='; style-src 'sha256-diyhh/zdB/h4xlX9RIhn7V5L9YaGBL46C3Ve09QTtC4='; connect-src 'self'; img-src data:; base-uri 'none'; form-action 'none'; frame-ancestors 'none'; require-trusted-types-for 'script'; trusted-types 'none'";
+    "default-src 'none'; script-src 'sha256-GU1vSxDVvtw+jgRRIxcUQBrJXYmnGwwjsRCv/pH6ou0='; style-src 'sha256-a1KZm8FOuLrNGtq9+cFlr5qcoEGwWdEIZP9zEV71+OU='; connect-src 'self'; img-src data:; base-uri 'none'; form-action 'none'; frame-ancestors 'none'; require-trusted-types-for 'script'; trusted-types 'none'";
