@@ -31,17 +31,17 @@ const isChosen = it => (!chosen.crew || it.crew === chosen.crew) && (!chosen.sec
 
 // By how much the limit is exceeded by the times now, if that can be told: a report has what is nearest of a pairing's periods, or of all
 // that the member has done.
-export async function amountOf(it, stop) {
+async function amountOf(it, stop) {
   const of = list => list.find(one => one.section === it.section), limit = of(await reading.limits(it.crew, it.pairing, 2, stop));
   if (it.pairing) return isRest(it.section) || !limit.duty || limit.duty === it.name ? excess(limit, it.name) : { text: '' };
   const duties = await rosterOf(it.crew, 2, stop), duty = duties.find(other => other.key === it.key);
   if (isRest(it.section)) return excess(nearestRest(limit, duties, duty), it.name);
   return meets(limit, duty) ? excess(limit) : { text: `limit ${hm(limit.limit)}` };
 }
-// Whether all that a duty exceeded is within its limit now: then `calm` is called.
-export function ifWithin(duty, sections, stop, calm) {
+// Calls `then` if all that a duty exceeded is within its limit now.
+export function ifWithin(duty, sections, stop, then) {
   const { crew, kind, key, id, name } = duty, of = section => amountOf({ crew, kind, key, name, section, pairing: kind === 'pairing' && id }, stop);
-  Promise.all(sections.map(of)).then(list => { if (list.length && list.every(it => it.isWithin)) calm(); }).catch(unlessLost);
+  Promise.all(sections.map(of)).then(list => { if (list.length && list.every(it => it.isWithin)) then(); }).catch(unlessLost);
 }
 // A note of what stands on record, once all of it is within now.
 export function calm(note) {
