@@ -1,17 +1,17 @@
 #!/usr/bin/env python3
 """Shows how the program reads the tables of a file, and what it leaves in them.
 
-    tests/tables.py [--reads]
+    tests/tables.py
 
 Books of version 1 and of version 2 are made by plain SQL (tests/tables/version_1.sql, version_2.sql), and the program is asked: such
 with a damage, or with two, of which the first table has to be named (damages.txt), and sound ones, whose answers show how their rows are
 read (answers.txt, of those with a second base bases.txt, and of those with outside periods outside.txt). Books that the program makes are
 read by plain SELECTs: after each order of a story (story.txt), with the longest pairing, with the greatest key, and beside other tables.
 One of them is damaged (late.txt), and the tables of others are offered rows that they have to refuse (refused.txt). Books with the index
-of README ("A book of many years") answer as those without it do, and keep it; with --reads it is tried too that less is read of such a
-file, where the system counts what a process reads (/proc/PID/io). Each subcommand is tried on files that are no book, and on books that
-can't be opened. The SQL is that of Python's own `sqlite3`, of SQLite 3.37 or newer. What differs is printed on standard error. The last
-line is 'N passed, M failed', and the exit status 1 where M isn't 0.
+of README ("A book of many years") answer as those without it do, and keep it; and less is read of such a file, where the system counts
+what a process reads (/proc/PID/io). Each subcommand is tried on files that are no book, and on books that can't be opened. The SQL is that
+of Python's own `sqlite3`, of SQLite 3.37 or newer. What differs is printed on standard error. The last line is 'N passed, M failed', and
+the exit status 1 where M isn't 0.
 """
 
 import ctypes
@@ -649,6 +649,7 @@ TRIED = (
     try_making,
     try_refused_rows,
     try_own_index,
+    try_fewer_reads,
 )
 
 
@@ -659,7 +660,7 @@ def main():
         return 3
     with tempfile.TemporaryDirectory() as room:
         desk = Desk(Path(room))
-        for tried in (*TRIED, try_fewer_reads) if "--reads" in sys.argv[1:] else TRIED:
+        for tried in TRIED:
             tried(desk)
     print(f"{desk.passed} passed, {desk.failed} failed")
     return 1 if desk.failed else 0
