@@ -262,7 +262,8 @@ helps() {
     help_of exceedances exceedances FILE --json 'rosterbook exceedances roster.db' "'outside'" 'Exit status'
     help_of members members FILE --json 'rosterbook members roster.db' 'order of the ids' 'Exit status'
     help_of pairings pairings FILE --open --json 'rosterbook pairings roster.db --open' "'flown'" "'-' for a free seat" 'Exit status'
-    help_of board board FILE FROM TO --json 'rosterbook board roster.db 2025-06-01 2025-06-30' 'At most 62 days' 'Exit status'
+    help_of board board FILE FROM TO --json '<FROM>  First day by UTC' '<TO>    Last day by UTC' 'rosterbook board roster.db 2025-06-01 2025-06-30' 'At most 62 days' \
+        'Exit status'
     help_of request request FILE NUMBER --json 'rosterbook request roster.db 7' 'part 0' 'Exit status'
     help_of serve serve FILE PORT '--connections <N>' '[default: 1000000]' 'from 1 to 65535' 'from 1 to 1000000' \
         'rosterbook serve roster.db 8117 --connections 2' 'listening PORT' '92 Channel' '93 Network' '90 Store' 'Exit status'
