@@ -10,7 +10,7 @@ script are modules that say what they import; here they become one module, each 
 two parts may have the same name at the top, and none may import itself by a detour. Comments are left out of the page, and blanks that
 mean nothing; there `const` is `let`, once for declarations that follow each other, `true` is `!0`, no semicolon stands before a brace or
 at the end of a line where none is needed. The style's colours and lengths have a letter each for a name; so have the names at the top of the
-parts, or a letter and a digit, but for those that are somewhere a property's name too. The policy allows one script and one style, by their
+parts, or two letters, but for those that are somewhere a property's name too. The policy allows one script and one style, by their
 hashes, and nothing else.
 """
 
@@ -19,8 +19,9 @@ import hashlib
 import re
 import sys
 from collections import Counter
+from itertools import product
 from pathlib import Path
-from string import ascii_letters, digits
+from string import ascii_letters
 
 HERE = Path(__file__).resolve().parent
 CRATE = HERE.parent / "crates" / "desk" / "src"
@@ -179,14 +180,15 @@ def properties(code):
 
 def short_names(parts, lines):
     """A short name for each name at the top of a part that is no property's: so it means the same wherever it stands. The short ones occur
-    nowhere yet; what stands most often gets the shortest."""
+    nowhere yet, and are no words of the language; what stands most often gets the shortest."""
     pieces = []
     for line in lines:
         in_code(line, lambda piece: pieces.append(piece) or piece)
     code = "''".join(pieces)
     count, kept = Counter(WORD.findall(code)), properties(code)
     names = sorted({name for part in parts for name in part.names} - kept, key=lambda it: (-count[it], it))
-    free = (it for it in (*ascii_letters, *(a + n for a in ascii_letters for n in digits)) if it not in count)
+    taken = {*count, "do", "if", "in"}
+    free = (it for it in (*ascii_letters, *map("".join, product(ascii_letters, repeat=2))) if it not in taken)
     return {name: next(free) if len(name) > 1 else name for name in names}
 
 

@@ -2,4 +2,4 @@
 
 /// What a browser lets the page do.
 pub const POLICY: &str =
-    "default-src 'none'; script-src 'sha256-9SiPSG8MsLNMYn/sL9YG7xoR1hzMNossGsSKQoLJ3DI='; style-src 'sha256-a1KZm8FOuLrNGtq9+cFlr5qcoEGwWdEIZP9zEV71+OU='; connect-src 'self'; img-src data:; base-uri 'none'; form-action 'none'; frame-ancestors 'none'; require-trusted-types-for 'script'; trusted-types 'none'";
+    "default-src 'none'; script-src 'sha256-NQqIwLp1dKyoIhYdbkCxz/ISx+FX15M/icQCqvyuCSs='; style-src 'sha256-a1KZm8FOuLrNGtq9+cFlr5qcoEGwWdEIZP9zEV71+OU='; connect-src 'self'; img-src data:; base-uri 'none'; form-action 'none'; frame-ancestors 'none'; require-trusted-types-for 'script'; trusted-types 'none'";
