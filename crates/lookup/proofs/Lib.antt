@@ -19,4 +19,6 @@ pub mod IdLemmas
 pub mod RequestLemmas
 pub mod CountLemmas
 pub mod NearLemmas
+pub mod NearOrder
 pub mod NearReads
+pub mod NearPairings

@@ -1,15 +1,19 @@
 -- The near periods among those of a member's pairings are of just the pairings that are near.
-use Rattle.std.proofs.Common.{◌≡◌, inl, inr, refl, sym, ap, subst, subst₂, ◌∙◌, ℕ, zero, suc, Bool, true, false, ◌||◌, List, [], ◌∷◌, ◌++◌, flat_map, filter, map, Contains, Option, Some, None, slice_get}
+use Rattle.std.proofs.Common.{◌≡◌, inl, inr, refl, sym, ap, subst, subst₂, ◌∙◌, ℕ, zero, suc, Bool, true, false, ◌||◌, List, [], ◌∷◌, flat_map, filter, map, Contains, Option, Some, None, slice_get}
 use Rattle.std.specs.FinMap as fin
-use Rattle.std.specs.List.{list_any, zip}
+use Rattle.std.specs.List.{dedup, list_any, zip}
+use Rattle.std.specs.Prelude.{IsPermutation}
+use Rattle.std.specs.Str.{bytes_eq}
 use Rattle.std.specs.Option.{option_map}
 use Rattle.std.specs.Ordering.{is_eq}
 use Rattle.std.specs.Prelude.{unwrap_or}
 use Rattle.std.proofs.lemmas.Bool.{and_from, and_parts, cases_Bool}
-use Rattle.std.proofs.lemmas.Cmp.{tied_itself}
-use Rattle.std.proofs.lemmas.List.Sorted.{IsPermutation-sym}
+use Rattle.std.proofs.lemmas.Cmp.{nat_list_eq_equiv, tied_itself}
+use Rattle.std.proofs.lemmas.List.Kept.{Contains-dedup, Contains-from_dedup}
+use Rattle.std.proofs.lemmas.List.Sorted.{IsPermutation-map, IsPermutation-sym, IsPermutation-trans}
+use Rattle.std.proofs.lemmas.Slice.Eq.{bytes_eq-Decides}
 use Rattle.sqlite_value.specs.declared.value.Value.TheVariants.{Text}
-use Rattle.sqlite_value.specs.Order.{Row, column, value_cmp}
+use Rattle.sqlite_value.specs.Order.{Row, column}
 use Rattle.sqlite_value.proofs.OrderLemmas.{value_cmp_total}
 use Rattle.sqlite_rules.specs.Lists.{Has}
 use Rattle.sqlite_rules.proofs.ListLemmas.{has_either, has_left, has_right}
@@ -26,16 +30,17 @@ use Rattle.roster.specs.declared.state.PairingEntry.{PairingEntry}
 use Rattle.roster.proofs.Members.{first_or_later, is_first, is_later, none_in}
 use Rattle.tables.specs.Held.{FindsHeld, equals, is_of_seat}
 use Rattle.tables.specs.Records.{period_row}
-use Rattle.tables.specs.Rows.{rows_of}
+use Rattle.tables.specs.Rows.{begins_with, rows_of}
 use Rattle.tables.specs.declared.period.PeriodRecord.{PeriodRecord}
 use Rattle.tables.proofs.Answering.{has_permuted}
 use Rattle.state_rows.specs.Rows.{table, period, seat, outside_segment, row_of_period, row_of_seat, At, HeldSeat, PeriodOf}
 use Rattle.state_rows.specs.Kept.{IsBookOf}
 use Rattle.state_rows.proofs.Lists.{one_value}
+use Rattle.state_rows.proofs.Tests.{found as columns_found, passes, IsPlain}
 use Rattle.state_rows.proofs.Values.{number_is, numbers_same, text_is}
 use Rattle.entries.specs.Right.{AreRight, IsInstantIfAny}
 use Rattle.stored_json.specs.Instants.{is_instant}
-use Rattle.lookup.specs.Near.{HasNoInstants, ids_near, is_period_near, times_in_force}
+use Rattle.lookup.specs.Near.{HasNoInstants, HasPeriodRows, HavePeriodRows, ids_near, is_period_near, records_of, times_in_force}
 use Rattle.lookup.proofs.HeldLemmas.{seat_held, some_seat, text_same}
 use Rattle.lookup.proofs.PlanLemmas.{has_record, record_has}
 use Rattle.lookup.proofs.ReadLemmas.{has_filtered, of_filtered}
@@ -168,6 +173,9 @@ module _ (who : List ℕ) (db : Database) (found : List Row) (finds : FindsHeld 
       has_permuted (flat_map of_one (rows_of (table seat) db)) found row finds
       (in_many of_one (rows_of (table seat) db) x row h (has_filtered (is_of_seat who x) (rows_of (table period) db) row k test))
 
+first_is : (id : List ℕ) (row : Row) {name : List ℕ} → column row 0 ≡ Text name → begins_with (Text id ∷ []) row ≡ true → column row 0 ≡ Text id
+first_is id row is test = (columns_found (Text id ∷ []) row (subst IsPlain (sym is) tt, tt, tt) test).0
+
 text_equal : (a b : List ℕ) → equals (Text a) (Text b) ≡ true → a ≡ b
 text_equal a b e = text_same a b e
 
@@ -217,6 +225,76 @@ module _ (s : roster.State) (db : Database) (book : IsBookOf s db) (who : List �
 
   pub near_are : AreJust (IsHeldNear s spans who) (ids_near spans records)
   near_are id = (of_near id, in_near id)
+
+-- ---- The records of one pairing
+
+module _ (test : PeriodRecord → Bool) where
+  of_those : (records : List PeriodRecord) (row : Row) → Has (map period_row (filter test records)) row →
+      (it : PeriodRecord) × Has (map period_row records) row × (period_row it ≡ row) × (test it ≡ true)
+  of_those [] row h = absurd h
+  of_those (x ∷ xs) row h = elim (cases_Bool (test x)) [
+    | inl pass ↦
+        let here : Has (map period_row (x ∷ filter test xs)) row = rw pass at h in
+        elim here [
+          | inl same ↦ (x, inl same, sym same, pass)
+          | inr later ↦ let it = of_those xs row later in (it.0, inr it.1, it.2, it.3)
+        ]
+    | inr fail ↦
+        let later : Has (map period_row (filter test xs)) row = rw fail at h in
+        let it = of_those xs row later in (it.0, inr it.1, it.2, it.3)
+  ]
+
+  in_those : (records : List PeriodRecord) (row : Row) → Has (map period_row records) row → ((it : PeriodRecord) → period_row it ≡ row → test it ≡ true) →
+      Has (map period_row (filter test records)) row
+  in_those [] row h pass = absurd h
+  in_those (x ∷ xs) row (inl same) pass = rw (pass x (sym same)) (inl same)
+  in_those (x ∷ xs) row (inr later) pass = elim (cases_Bool (test x)) [
+    | inl also ↦ rw also (inr (in_those xs row later pass))
+    | inr fail ↦ rw fail (in_those xs row later pass)
+  ]
+
+-- in another order they are those of the same seats
+pub held_in_order : (who : List ℕ) (db : Database) (held records : List PeriodRecord) → FindsHeld who db (map period_row held) → IsPermutation held records → FindsHeld who db (map period_row records)
+held_in_order who db held records finds moved = IsPermutation-trans _ (map period_row held) (map period_row records) finds (IsPermutation-map period_row held records moved)
+
+module _ (s : roster.State) (db : Database) (book : IsBookOf s db) (who : List ℕ) (records : List PeriodRecord) (finds : FindsHeld who db (map period_row records)) where
+  periods_of : (id : List ℕ) (r : PairingEntry) → fin.get s.pairings id ≡ Some r → holds who r ≡ true → HasPeriodRows s id (records_of id records)
+  periods_of id r here holds =
+      let holder = some_seat who r holds in
+      let at : At s.pairings = record { name = id; value = r; there = here } in
+      let held : HeldSeat r = record { seat = holder.0; crew = who; held = holder.1 } in
+      let seat_row = row_of_seat id holder.0 who in
+      record {
+        pairing = r;
+        there = here;
+        rows = λ row. (
+          λ h.
+              let it = of_those (λ x. bytes_eq x.pairing id) records row h in
+              let x = of_held who db (map period_row records) finds row it.1 in
+              let first : column row 0 ≡ Text id = ap (λ (v : Row). column v 0) (sym it.2) ∙ ap Text ((bytes_eq-Decides it.0.pairing id).0 it.3) in
+              ((book.rows period row).0 x.2, passes (Text id ∷ []) row (first, tt)),
+          λ h.
+              let first = first_is id row (ap (λ (v : Row). column v 0) h.0.2) h.1 in
+              let there = in_held who db (map period_row records) finds seat_row row ((book.rows seat seat_row).1 (at, held, refl)) ((book.rows period row).1 h.0)
+              (and_from _ _ (ap (λ v. equals v (Text id)) first ∙ text_itself id) (text_itself who)) in
+              in_those (λ x. bytes_eq x.pairing id) records row there
+              (λ x same. (bytes_eq-Decides x.pairing id).1 (text_is (ap (λ (v : Row). column v 0) same ∙ first))),
+        );
+      }
+
+  module _ (spans : List Span) where
+    abbrev near_once : List (List ℕ)
+    near_once = dedup bytes_eq (ids_near spans records)
+
+    -- without those that stand twice the ids are the same
+    pub once_near : AreJust (IsHeldNear s spans who) near_once
+    once_near id = (
+      λ c. (near_are s db book who records finds spans id).0 (Contains-from_dedup bytes_eq (ids_near spans records) id c),
+      λ is. Contains-dedup nat_list_eq_equiv (λ x y e. (bytes_eq-Decides x y).0 e) (ids_near spans records) id ((near_are s db book who records finds spans id).1 is),
+    )
+
+    pub have_periods : HavePeriodRows s near_once records
+    have_periods id c = let is = (once_near id).0 c in periods_of id is.0 is.1 is.2
 
 -- ---- Where the tables are right, the times are instants
 

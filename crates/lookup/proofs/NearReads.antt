@@ -1,30 +1,20 @@
--- What a read of the near pairings of a member says.
-use Rattle.std.proofs.Common.{◌≡◌, refl, sym, subst, ◌∙◌, ℕ, List, [], map, Result, Ok, Err, IfErr, IfOk, IsTrue}
+-- What a read of the periods of a member's pairings says.
+use Rattle.std.proofs.Common.{◌≡◌, refl, sym, ◌∙◌, ℕ, List, [], Result, Ok, Err, IsTrue}
 use Rattle.sqlite_value.specs.Order.{Row}
 use Rattle.sqlite.specs.Effect.{Database}
-use Rattle.sqlite.specs.State.{State, HasCleanDisk, IsUnchanged}
-use Rattle.duty.specs.declared.span.Span.{Span}
-use Rattle.roster.specs.Holding.{AreJust}
-use Rattle.roster.specs.Near.{IsHeldNear}
-use Rattle.roster.specs.State as roster
+use Rattle.sqlite.specs.State.{State, HasCleanDisk}
 use Rattle.tables.specs.Calls.{CrashLeavesNoMore, HasStepLimit, ReadAs}
 use Rattle.tables.specs.Held.{FindsHeld, HasNoHeldRecord}
-use Rattle.tables.specs.Records.{IsPeriodRow, period_row}
+use Rattle.tables.specs.Records.{IsPeriodRow}
 use Rattle.tables.specs.Rows.{begins_with}
-use Rattle.tables.specs.declared.period.PeriodRecord.{PeriodRecord}
 use Rattle.tables.specs.declared.table_fault.TableFault.{TableFault}
 use Rattle.state_rows.specs.Faults.{store_fault_of}
-use Rattle.state_rows.specs.Kept.{IsBookOf}
 use Rattle.state_rows.specs.Outcomes.{IsOutside}
 use Rattle.state_rows.specs.Rows.{outside_segment, period}
 use Rattle.state_rows.specs.declared.fault.StoreFault.{StoreFault}
-use Rattle.state_rows.specs.declared.fault.StoreFault.TheVariants.{Store}
 use Rattle.entries.specs.Right.{AreRight}
-use Rattle.lookup.specs.Near.{HasNoInstants, ReadsHeld, ids_near}
-use Rattle.lookup.specs.Reads.{ReadsByKey, Shows, Stays}
-use Rattle.lookup.proofs.Causes.{read_cause, shows_on, wrong_there}
-use Rattle.lookup.proofs.Changes.{of_stays}
-use Rattle.lookup.proofs.NearLemmas.{has_instants, near_are}
+use Rattle.lookup.specs.Near.{ReadsHeld}
+use Rattle.lookup.proofs.Causes.{read_cause}
 use Rattle.lookup.proofs.ReadLemmas.{stays}
 use Rattle.lookup.proofs.RightRows.{records_of}
 
@@ -53,30 +43,4 @@ module _ {A : Type 0} (who : List ℕ) (rows : A → List Row) (old new : State)
     stays = stays FindsThem (HasNoHeldRecord who IsPeriodRow) (HasStepLimit old) old new left outside same (Err fault) read;
     told = λ clean. tt;
     caused = λ clean is. read_cause FindsThem (HasNoHeldRecord who IsPeriodRow) old new fault (no_record who old.now) read clean (sym of_fault ∙ is);
-  }
-
--- ---- The ids of those that are near
-
-module _ {A : Type 0} (ids : A → List (List ℕ)) (who : List ℕ) (spans : List Span) (records : List PeriodRecord) (old new : State) (left : Stays old new)
-    (read : HasCleanDisk new → IsUnchanged old new × FindsHeld who old.now (map period_row records)) where
-  -- the state that is shown, of a clean disk
-  is_book : HasCleanDisk new → (s : roster.State) → Shows old s → IsBookOf s old.now
-  is_book clean s shows = shows.book (left.nothing_new.disk clean) (read clean).0.0.was_open
-
-  pub near_told : (result : Result A StoreFault) → IfOk result (λ a. ids a ≡ ids_near spans records) → IfErr result (λ fault. fault ≡ Store → HasNoInstants records) →
-      ReadsByKey (λ s found. AreJust (IsHeldNear s spans who) (ids found)) old new result
-  near_told (Ok a) told untold = record {
-    stays = left;
-    opened = λ clean. (read clean).0.0.is_open;
-    told = λ clean s shows. (
-      shows_on old new s (of_stays old new left) shows,
-      subst (AreJust (IsHeldNear s spans who)) (sym told) (near_are s old.now (is_book clean s shows) who records (read clean).1 spans),
-    );
-    caused = tt;
-  }
-  near_told (Err fault) told untold = record {
-    stays = left;
-    opened = tt;
-    told = λ clean s shows. tt;
-    caused = λ s shows clean is. wrong_there old new (λ right. has_instants old.now right who records (read clean).1 (untold is));
   }

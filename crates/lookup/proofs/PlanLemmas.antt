@@ -24,12 +24,11 @@ use Rattle.roster.specs.State as roster
 use Rattle.roster.specs.declared.state.PairingEntry.{PairingEntry}
 use Rattle.tables.proofs.KeyLemmas.{period_once, segment_once}
 use Rattle.tables.specs.Records.{period_row, seat_row, segment_row}
-use Rattle.tables.specs.Rows.{Finds, begins_with, rows_of}
-use Rattle.tables.specs.Schema.{period_table, segment_table}
+use Rattle.tables.specs.Rows.{Finds, begins_with}
 use Rattle.tables.specs.declared.period.PeriodRecord.{PeriodRecord}
 use Rattle.tables.specs.declared.seat.SeatRecord.{SeatRecord}
 use Rattle.tables.specs.declared.segment.SegmentRecord.{SegmentRecord}
-use Rattle.state_rows.specs.Rows.{table, period, seat, segment, row_of_period, row_of_seat, seat_number, At, PeriodOf, HeldSeat}
+use Rattle.state_rows.specs.Rows.{table, period, seat, segment, row_of_period, row_of_seat, seat_number, At, PeriodOf, HeldSeat, InPeriod}
 use Rattle.state_rows.proofs.Lists.{one_value}
 use Rattle.state_rows.proofs.Tests.{found, passes}
 use Rattle.state_rows.proofs.Values.{text_is, number_is, seats_same}
@@ -47,7 +46,7 @@ use Rattle.entries.specs.Mapping.{AreOnce, Mapped, Under}
 use Rattle.lookup.specs.Reads.{Shows}
 use Rattle.lookup.specs.Plans.{FindsPlan, HoldsSeat, IfSome, TellsPairing}
 use Rattle.lookup.specs.declared.pairing.PlanRecords.{PlanRecords}
-use Rattle.lookup.proofs.ReadLemmas.{in_found, of_found}
+use Rattle.lookup.proofs.ReadLemmas.{AreOf, are_of, in_found, of_found}
 use Rattle.lookup.proofs.OnePairing.{pairing_is}
 
 -- ---- Records by their keys
@@ -149,16 +148,22 @@ module _ (s : roster.State) (sound : Sound s) (db : Database) (book : IsBookOf s
   abbrev by_id : Row → Bool
   by_id = begins_with (Text id ∷ [])
 
-  none_there : (o : Option PairingEntry) → fin.get s.pairings id ≡ o → Finds (table period) by_id db [] → o ≡ None
-  none_there None here finds = refl
-  none_there (Some r) here finds =
+  -- the first period's row
+  pub first_row : (r : PairingEntry) → fin.get s.pairings id ≡ Some r → (row : Row) × InPeriod s row × (by_id row ≡ true)
+  first_row r here =
       let is = sound.pairings id r here in
       let fdp = first_period r.plan.periods (counted r.plan is.plan) in
       let actual = first_of r.actuals r.plan.periods is.places fdp.0 fdp.1 in
       let at : At s.pairings = record { name = id; value = r; there = here } in
       let p : PeriodOf r = record { place = 0; fdp = fdp.0; actual = actual.0; planned = fdp.1; flown = actual.1 } in
       let row = row_of_period id 0 fdp.0 actual.0 in
-      absurd (in_found period by_id db [] finds row ((book.rows period row).1 (at, p, refl)) (passes (Text id ∷ []) row (refl, tt)))
+      (row, (at, p, refl), passes (Text id ∷ []) row (refl, tt))
+
+  none_there : (o : Option PairingEntry) → fin.get s.pairings id ≡ o → Finds (table period) by_id db [] → o ≡ None
+  none_there None here finds = refl
+  none_there (Some r) here finds =
+      let first = first_row r here in
+      absurd (in_found period by_id db [] finds first.0 ((book.rows period first.0).1 first.1) first.2)
 
   -- a row of a seat with this id
   module _ (r : PairingEntry) (here : fin.get s.pairings id ≡ Some r) (records : List SeatRecord) (finds : Finds (table seat) by_id db (map seat_row records)) where
@@ -188,26 +193,20 @@ module _ (s : roster.State) (sound : Sound s) (db : Database) (book : IsBookOf s
     holder_is x None none = none_held x none (holder x r) refl
     holder_is x (Some who) it = ap Some it.4 ∙ sym (held_by x it.1 (record_has seat_row records it.0 it.1 it.2) it.3)
 
-  module _ (periods : List PeriodRecord) (segments : List SegmentRecord) (finds : Finds (table period) by_id db (map period_row periods)) (also : Finds (table segment) by_id db (map segment_row segments)) where
-    abbrev pub in_periods : (row : Row) → Has (map period_row periods) row → Has (rows_of period_table db) row × (by_id row ≡ true)
-    in_periods = of_found period by_id db (map period_row periods) finds
-
-    abbrev pub in_segments : (row : Row) → Has (map segment_row segments) row → Has (rows_of segment_table db) row × (by_id row ≡ true)
-    in_segments = of_found segment by_id db (map segment_row segments) also
-
+  module _ (periods : List PeriodRecord) (segments : List SegmentRecord) (finds : AreOf period by_id db (map period_row periods)) (also : AreOf segment by_id db (map segment_row segments)) where
     pub once_period : AreOnce row_of_keyed_period (map period_row periods)
     once_period key v w first second =
         let itself = λ (x : PeriodRecord). passes (Text key.pairing ∷ Int (pos key.number) ∷ []) (row_of_keyed_period key x) (refl, (refl, tt)) in
         period_once db book.database (is_there db.schema book.tables period) (book.stored period) key.pairing (pos key.number) (row_of_keyed_period key v) (row_of_keyed_period key w)
-        (in_periods (row_of_keyed_period key v) first).0 (in_periods (row_of_keyed_period key w) second).0 (itself v) (itself w)
+        (finds.there (row_of_keyed_period key v) first).0 (finds.there (row_of_keyed_period key w) second).0 (itself v) (itself w)
 
     pub once_segment : AreOnce row_of_keyed_segment (map segment_row segments)
     once_segment key v w first second =
         let itself = λ (x : SegmentRecord). passes (Text key.pairing ∷ Int (pos key.period) ∷ Int (pos key.number) ∷ []) (row_of_keyed_segment key x) (refl, (refl, (refl, tt))) in
         segment_once db book.database (is_there db.schema book.tables segment) (book.stored segment) key.pairing (pos key.period) (pos key.number) (row_of_keyed_segment key v) (row_of_keyed_segment key w)
-        (in_segments (row_of_keyed_segment key v) first).0 (in_segments (row_of_keyed_segment key w) second).0 (itself v) (itself w)
+        (also.there (row_of_keyed_segment key v) first).0 (also.there (row_of_keyed_segment key w) second).0 (itself v) (itself w)
 
-    plan_is : (r free : PairingEntry) → fin.get s.pairings id ≡ Some r → IsToldBy id periods segments free → SamePlan r free
+    pub plan_is : (r free : PairingEntry) → fin.get s.pairings id ≡ Some r → IsToldBy id periods segments free → SamePlan r free
     plan_is r free here told =
         let of_p = periods_just told.ids periods once_period told.by_number told.periods_read in
         let of_s = segments_just told.by_number segments once_segment told.by_numbers told.segments_read in
@@ -215,8 +214,8 @@ module _ (s : roster.State) (sound : Sound s) (db : Database) (book : IsBookOf s
         (periods_keyed told.ids periods once_period told.by_number told.periods_read)
         (segments_keyed told.by_number segments once_segment told.by_numbers told.segments_read)
         told.told
-        (λ row. (λ it. in_periods row ((of_p row).0 it), λ h. (of_p row).1 (in_found period by_id db (map period_row periods) finds row h.0 h.1)))
-        (λ row. (λ it. in_segments row ((of_s row).0 it), λ h. (of_s row).1 (in_found segment by_id db (map segment_row segments) also row h.0 h.1)))
+        (λ row. (λ it. finds.there row ((of_p row).0 it), λ h. (of_p row).1 (finds.here row h.0 h.1)))
+        (λ row. (λ it. also.there row ((of_s row).0 it), λ h. (of_s row).1 (also.here row h.0 h.1)))
         (of_periods told.by_number segments once_segment told.by_numbers told.segments_read)
 
   pub pairing_told : (periods : List PeriodRecord) (segments : List SegmentRecord) (seats : List SeatRecord) (answer : Option PairingEntry) →
@@ -230,7 +229,7 @@ module _ (s : roster.State) (sound : Sound s) (db : Database) (book : IsBookOf s
       let at = (book.rows period (period_row p)).0 there.0 in
       let same_id : id ≡ at.0.name = sym (text_is (found (Text id ∷ []) (period_row p) (tt, tt, tt) there.1).0) ∙ text_is (ap (λ (v : Row). column v 0) at.2) in
       let here : fin.get s.pairings id ≡ Some at.0.value = ap (fin.get s.pairings) same_id ∙ at.0.there in
-      let same = plan_is (p ∷ ps) segments finds also at.0.value it.free here it.told in
+      let same = plan_is (p ∷ ps) segments (are_of period by_id db (map period_row (p ∷ ps)) finds) (are_of segment by_id db (map segment_row segments) also) at.0.value it.free here it.told in
       let captain = holder_is at.0.value here seats held Captain q.captain it.captain in
       let first_officer = holder_is at.0.value here seats held FirstOfficer q.first_officer it.first_officer in
       let value : q ≡ at.0.value = λ i. record {

@@ -128,6 +128,14 @@ module _ (it : StateTable) (test : Row → Bool) (db : Database) (rows : List Ro
   pub of_found : (x : Row) → Has rows x → Has (rows_of (table it) db) x × (test x ≡ true)
   of_found x h = of_filtered test (rows_of (table it) db) x (has_permuted rows (filter test (rows_of (table it) db)) x (IsPermutation-sym _ _ finds) h)
 
+-- some rows are just those of a table that pass a test; one may be there more than once
+pub record AreOf (it : StateTable) (test : Row → Bool) (db : Database) (rows : List Row) : Type 0 where
+  pub there : (x : Row) → Has rows x → Has (rows_of (table it) db) x × (test x ≡ true)
+  pub here : (x : Row) → Has (rows_of (table it) db) x → test x ≡ true → Has rows x
+
+pub are_of : (it : StateTable) (test : Row → Bool) (db : Database) (rows : List Row) → Finds (table it) test db rows → AreOf it test db rows
+are_of it test db rows finds = record { there = of_found it test db rows finds; here = in_found it test db rows finds }
+
 pub opened_ok : {A E : Type 0} (result : Result A E) (old new : State) → (HasCleanDisk new → IsUnchanged old new) → OnOk result (IsOpen new)
 opened_ok (Ok a) old new same = λ clean. (same clean).0.is_open
 opened_ok (Err fault) old new same = tt

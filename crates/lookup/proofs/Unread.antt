@@ -36,13 +36,13 @@ use Rattle.lookup.proofs.OnePairing.{alone, alone_here, only_one}
 use Rattle.lookup.proofs.PlanLemmas.{once_period, once_segment, periods_just, periods_keyed, segments_just, segments_keyed}
 use Rattle.lookup.specs.Plans.{FindsPlan, IfSome, unread_as}
 use Rattle.lookup.specs.declared.pairing.PlanRecords.{PlanRecords}
-use Rattle.lookup.proofs.ReadLemmas.{in_found, of_found}
+use Rattle.lookup.proofs.ReadLemmas.{AreOf, are_of}
 use Rattle.lookup.proofs.RightRows.{segments_right}
 
 module _ (s : roster.State) (sound : Sound s) (db : Database) (book : IsBookOf s db) (right : AreRight outside_segment db) (id : List ℕ)
     (periods : List PeriodRecord) (segments : List SegmentRecord)
-    (finds : Finds (table period) (begins_with (Text id ∷ [])) db (map period_row periods))
-    (also : Finds (table segment) (begins_with (Text id ∷ [])) db (map segment_row segments)) where
+    (finds : AreOf period (begins_with (Text id ∷ [])) db (map period_row periods))
+    (also : AreOf segment (begins_with (Text id ∷ [])) db (map segment_row segments)) where
   abbrev by_id : Row → Bool
   by_id = begins_with (Text id ∷ [])
 
@@ -62,11 +62,11 @@ module _ (s : roster.State) (sound : Sound s) (db : Database) (book : IsBookOf s
   period_of it test = sym (text_is (found (Text id ∷ []) (period_row it) (tt, tt, tt) test).0)
 
   period_here : (it : PeriodRecord) → Has (rows_of period_table db) (period_row it) → it.pairing ≡ id → Has (map period_row periods) (period_row it)
-  period_here it h same = in_found period by_id db (map period_row periods) finds (period_row it) h (passes (Text id ∷ []) (period_row it) (ap Text same, tt))
+  period_here it h same = finds.here (period_row it) h (passes (Text id ∷ []) (period_row it) (ap Text same, tt))
 
   period_strange : HasStranger row_of_keyed_period (IsKeyedPeriod (only id)) (map period_row periods) → ⊥
   period_strange x =
-      let h = of_found period by_id db (map period_row periods) finds x.row x.here in
+      let h = finds.there x.row x.here in
       let is = (segments_right db right).1.0.2 x.row h.0 in
       let same : id ≡ is.it.pairing = period_of is.it (ap by_id (sym is.is) ∙ h.1) in
       x.strange (record { pairing = is.it.pairing; number = is.it.number }) is.it is.is (record {
@@ -88,7 +88,7 @@ module _ (s : roster.State) (sound : Sound s) (db : Database) (book : IsBookOf s
     ungapped pairing number it e =
         let names = period_names_same pairing it.pairing number it.number (keyed (period_name pairing number) it e) in
         let here : fin.get m (period_name it.pairing it.number) ≡ Some it = ap (fin.get m) (λ i. period_name (sym names.0 i) (sym names.1 i)) ∙ e in
-        let h = of_found period by_id db (map period_row periods) finds (period_row it) ((just (period_row it)).0 (it, here, refl)) in
+        let h = finds.there (period_row it) ((just (period_row it)).0 (it, here, refl)) in
         let is = (segments_right db right).1.0.2 (period_row it) h.0 in
         let same_pairing : it.pairing ≡ is.it.pairing = text_is (ap (λ (r : Row). column r 0) is.is) in
         let same_number : it.number ≡ is.it.number = number_is (ap (λ (r : Row). column r 1) is.is) in
@@ -115,7 +115,7 @@ module _ (s : roster.State) (sound : Sound s) (db : Database) (book : IsBookOf s
 
     segment_strange : HasStranger row_of_keyed_segment (IsKeyedSegment m) (map segment_row segments) → ⊥
     segment_strange x =
-        let h = of_found segment by_id db (map segment_row segments) also x.row x.here in
+        let h = also.there x.row x.here in
         let is = (segments_fit t db (segments_right db right).1).2 x.row h.0 in
         let same : id ≡ is.it.pairing = segment_of is.it (ap by_id (sym is.is) ∙ h.1) in
         let p = is.of_period in
@@ -142,7 +142,7 @@ module _ (s : roster.State) (sound : Sound s) (db : Database) (book : IsBookOf s
       segments_ungapped pairing period_number number it e =
           let names = segment_names_same pairing it.pairing period_number it.period number it.number (keyed_too (segment_name pairing period_number number) it e) in
           let here : fin.get n (segment_name it.pairing it.period it.number) ≡ Some it = ap (fin.get n) (λ i. segment_name (sym names.0 i) (sym names.1 i) (sym names.2 i)) ∙ e in
-          let h = of_found segment by_id db (map segment_row segments) also (segment_row it) ((just_too (segment_row it)).0 (it, here, refl)) in
+          let h = also.there (segment_row it) ((just_too (segment_row it)).0 (it, here, refl)) in
           let is = (segments_fit t db (segments_right db right).1).2 (segment_row it) h.0 in
           let same_pairing : it.pairing ≡ is.it.pairing = text_is (ap (λ (r : Row). column r 0) is.is) in
           let same_period : it.period ≡ is.it.period = number_is (ap (λ (r : Row). column r 1) is.is) in
@@ -152,7 +152,7 @@ module _ (s : roster.State) (sound : Sound s) (db : Database) (book : IsBookOf s
             | inr p ↦
                 let of_id : p.0.pairing ≡ id = p.2 ∙ sym same_pairing ∙ sym (segment_of it h.1) in
                 let at = (just_too (segment_row p.0)).1
-                (in_found segment by_id db (map segment_row segments) also (segment_row p.0) p.1 (passes (Text id ∷ []) (segment_row p.0) (ap Text of_id, tt))) in
+                (also.here (segment_row p.0) p.1 (passes (Text id ∷ []) (segment_row p.0) (ap Text of_id, tt))) in
                 let v_pairing : p.0.pairing ≡ at.0.pairing = text_is (ap (λ (r : Row). column r 0) at.2) in
                 let v_period : p.0.period ≡ at.0.period = number_is (ap (λ (r : Row). column r 1) at.2) in
                 let v_number : p.0.number ≡ at.0.number = number_is (ap (λ (r : Row). column r 2) at.2) in
@@ -185,7 +185,7 @@ module _ (s : roster.State) (sound : Sound s) (db : Database) (book : IsBookOf s
         periods_same : (row : Row) → PeriodRows m row ↔ InPeriod its row
         periods_same row = (
           λ h.
-              let kept = of_found period by_id db (map period_row periods) finds row ((just row).0 h) in
+              let kept = finds.there row ((just row).0 h) in
               let at = ((segments_right db right).1.1 row).0 kept.0 in
               let same : at.0.name ≡ id = text_is (sym (ap (λ (x : Row). column x 0) at.2) ∙ first_of row kept.1 (ap (λ (x : Row). column x 0) at.2)) in
               (record { name = at.0.name; value = at.0.value; there = its_here at.0.name at.0.value at.0.there same }, at.1, at.2),
@@ -193,13 +193,13 @@ module _ (s : roster.State) (sound : Sound s) (db : Database) (book : IsBookOf s
               let one = only_one t id r at.0.name at.0.value at.0.there in
               let of_t : InPeriod t row = (record { name = at.0.name; value = at.0.value; there = here_too at.0.name at.0.value at.0.there }, at.1, at.2) in
               let test = passes (Text id ∷ []) row (ap (λ (x : Row). column x 0) at.2 ∙ ap Text one.name, tt) in
-              (just row).1 (in_found period by_id db (map period_row periods) finds row (((segments_right db right).1.1 row).1 of_t) test),
+              (just row).1 (finds.here row (((segments_right db right).1.1 row).1 of_t) test),
         )
 
         segments_same : (row : Row) → SegmentRows n row ↔ InSegment its row
         segments_same row = (
           λ h.
-              let kept = of_found segment by_id db (map segment_row segments) also row ((just_too row).0 h) in
+              let kept = also.there row ((just_too row).0 h) in
               let at = ((segments_right db right).1.2.1 row).0 kept.0 in
               let same : at.0.name ≡ id = text_is (sym (ap (λ (x : Row). column x 0) at.3) ∙ first_of row kept.1 (ap (λ (x : Row). column x 0) at.3)) in
               (record { name = at.0.name; value = at.0.value; there = its_here at.0.name at.0.value at.0.there same }, at.1, at.2, at.3),
@@ -207,7 +207,7 @@ module _ (s : roster.State) (sound : Sound s) (db : Database) (book : IsBookOf s
               let one = only_one t id r at.0.name at.0.value at.0.there in
               let of_t : InSegment t row = (record { name = at.0.name; value = at.0.value; there = here_too at.0.name at.0.value at.0.there }, at.1, at.2, at.3) in
               let test = passes (Text id ∷ []) row (ap (λ (x : Row). column x 0) at.3 ∙ ap Text one.name, tt) in
-              (just_too row).1 (in_found segment by_id db (map segment_row segments) also row (((segments_right db right).1.2.1 row).1 of_t) test),
+              (just_too row).1 (also.here row (((segments_right db right).1.2.1 row).1 of_t) test),
         )
 
         pairing_told : IsPairingOfRows m n id r
@@ -216,7 +216,7 @@ module _ (s : roster.State) (sound : Sound s) (db : Database) (book : IsBookOf s
   -- the first period is of a pairing of the state
   its_pairing : (p : PeriodRecord) → Has (map period_row periods) (period_row p) → (r : PairingEntry) × (fin.get t.pairings id ≡ Some r)
   its_pairing p h =
-      let kept = of_found period by_id db (map period_row periods) finds (period_row p) h in
+      let kept = finds.there (period_row p) h in
       let at = ((segments_right db right).1.1 (period_row p)).0 kept.0 in
       let same : id ≡ at.0.name = period_of p kept.1 ∙ text_is (ap (λ (x : Row). column x 0) at.2) in
       (at.0.value, ap (fin.get t.pairings) same ∙ at.0.there)
@@ -237,7 +237,8 @@ not_unread_rows : (s : roster.State) (sound : Sound s) (db : Database) (book : I
     Finds (table period) (begins_with (Text id ∷ [])) db (map period_row periods) → IfSome periods (Finds (table segment) (begins_with (Text id ∷ [])) db (map segment_row segments)) →
     IsSome (slice_get periods 0) → GiveNoPairing id periods segments → ⊥
 not_unread_rows s sound db book right id [] segments finds also some unread = absurd (cc)
-not_unread_rows s sound db book right id (p ∷ ps) segments finds also some unread = not_unread s sound db book right id (p ∷ ps) segments finds also p (inl refl) unread
+not_unread_rows s sound db book right id (p ∷ ps) segments finds also some unread =
+    not_unread s sound db book right id (p ∷ ps) segments (are_of period _ db (map period_row (p ∷ ps)) finds) (are_of segment _ db (map segment_row segments) also) p (inl refl) unread
 
 pub not_unread_plan : (s : roster.State) (sound : Sound s) (db : Database) (book : IsBookOf s db) (right : AreRight outside_segment db) (id : List ℕ) (rows : PlanRecords) → FindsPlan id db rows →
     IsSome (slice_get rows.periods.items 0) → GiveNoPairing id rows.periods.items rows.segments.items → ⊥

@@ -5,7 +5,7 @@ use Rattle.std.specs.FinMap.{entries_sorted, find}
 use Rattle.std.specs.FinMap.Entries.{find-where_key, is_sorted-where_key, same_entries}
 use Rattle.std.specs.Cmp.Lexicographic.{nat_list_cmp_total}
 use Rattle.values.proofs.Names.{exact_names}
-use Rattle.std.specs.List.{AllZip, Contains, concat, enumerate_from, filter, flat_map, list_any}
+use Rattle.std.specs.List.{AllZip, Contains, enumerate_from, filter, flat_map, list_any}
 use Rattle.std.specs.Option.{option_map_or}
 use Rattle.std.specs.Str.{bytes_eq}
 use Rattle.std.proofs.lemmas.Bool.{cases_Bool}
@@ -15,16 +15,15 @@ use Rattle.values.specs.Name.{name_cmp}
 use Rattle.request.specs.Days.{Days, meets}
 use Rattle.command.specs.declared.member.Member.{Member}
 use Rattle.duty.specs.Plans.{GroundPlan}
-use Rattle.report.specs.Board.{ground_meets, grounds_in, has_period_in, is_open_in, open_in, outside_meets, outsides_in, pairings_held, period_meets, periods_in}
-use Rattle.report.specs.BoardText.{IsBoardText, IsMemberInDays, lines_in, open_rows}
+use Rattle.report.specs.Board.{ground_meets, grounds_in, has_period_in, is_open_in, open_in, outside_meets, outsides_in, period_meets, periods_in}
+use Rattle.report.specs.BoardText.{IsBoardText, IsMemberInDays, lines_in}
 use Rattle.report.specs.Kept.{kept_under, part_in}
 use Rattle.report.specs.Lines.{AreLinesInOrder}
 use Rattle.report.specs.PairingsText.{AreRowsInOrder, listed_row}
 use Rattle.report.specs.Periods.{pairing_periods}
 use Rattle.report.specs.RequestText.{part_lines, request_header, request_text}
-use Rattle.report.specs.RosterText.{ground_line, lines_of, outside_line, roster_period_line, roster_period_lines}
+use Rattle.report.specs.RosterText.{ground_line, outside_line, roster_period_line, roster_period_lines}
 use Rattle.report.specs.declared.line.Line.{Line}
-use Rattle.report.specs.declared.periods.PeriodInForce.{PeriodInForce}
 use Rattle.roster.specs.Pairings.{holds}
 use Rattle.roster.specs.Refusals.{is_member}
 use Rattle.roster.specs.State.{State}

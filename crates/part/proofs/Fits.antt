@@ -1,6 +1,5 @@
 -- New duties fit all duties and these without far ones alike.
-use Rattle.std.proofs.Common.{◌≡◌, ℕ, ◌++◌, Bool, true, false, List, map, Contains, inl, inr, sym, ap, ◌∙◌, refl, ◌↔◌, ◌⊎◌}
-use Rattle.std.specs.Prelude.{IsTrue}
+use Rattle.std.proofs.Common.{◌≡◌, ℕ, ◌++◌, Bool, true, false, List, map, inl, inr, sym, ap, refl, ◌↔◌}
 use Rattle.std.proofs.lemmas.Bool.{false≢true}
 use Rattle.std.proofs.lemmas.List.Elements.{Contains-append_left, Contains-append_right, Contains-append_cases}
 use Rattle.duty.specs.declared.duty_in_force.DutyInForce.{DutyInForce}
@@ -8,11 +7,9 @@ use Rattle.duty.specs.declared.span.Span.{Span}
 use Rattle.duty.specs.Minutes.{Overlap}
 use Rattle.duty.specs.Overlaps.{overlaps}
 use Rattle.duty.proofs.Overlapping.{overlaps_is}
-use Rattle.limits.specs.Judgement.{Broken}
 use Rattle.limits.specs.Reach.{AreAllButFar, AreIn}
 use Rattle.limits.proofs.Far.{far_changes_nothing, far_overlaps_nothing}
 use Rattle.limits.specs.declared.section.Section.{Section}
-use Rattle.command.specs.declared.exceedance.Exceedance.{Exceedance}
 use Rattle.roster.specs.Refusals.{broken_by}
 use Rattle.part.proofs.Alike.{SameFit}
 

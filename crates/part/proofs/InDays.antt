@@ -4,7 +4,6 @@ use Rattle.std.specs.FinMap as fin
 use Rattle.std.specs.Cmp.Lexicographic.{nat_list_cmp_total}
 use Rattle.std.specs.List.{Contains}
 use Rattle.std.specs.Option.{option_map_or}
-use Rattle.std.specs.Str.{bytes_eq}
 use Rattle.std.proofs.lemmas.Option.{same_Some}
 use Rattle.std.proofs.lemmas.Slice.Eq.{bytes_eq-Decides}
 use Rattle.values.specs.Name.{name_cmp}
@@ -12,7 +11,7 @@ use Rattle.values.proofs.Names.{exact_names}
 use Rattle.request.specs.Days.{Days}
 use Rattle.duty.specs.Plans.{GroundPlan}
 use Rattle.report.specs.Board.{ground_meets, has_period_in, outside_meets}
-use Rattle.roster.specs.Holding.{AreJust, IsGroundOf, IsOutsideOf}
+use Rattle.roster.specs.Holding.{AreJust}
 use Rattle.roster.specs.Refusals.{is_member, is_pairing}
 use Rattle.roster.specs.State.{State}
 use Rattle.roster.specs.declared.state.OutsideEntry.{OutsideEntry}

@@ -16,5 +16,6 @@ pub mod OneShown
 pub mod Fits
 pub mod Inside
 pub mod NewDuties
+pub mod NearPairings
 pub mod NearAnswers
 pub mod PickedNear

@@ -1,11 +1,11 @@
--- The near part of a state agrees with it on what the instruction looks at.
-use Rattle.std.proofs.Common.{◌≡◌, ◌⊎◌, ℕ, Bool, true, false, ◌||◌, ◌&&◌, List, Contains, Some, None, refl, sym, ap, subst, ◌∙◌, inl, inr, not}
+-- A near part of a state agrees with it on what the instruction looks at.
+use Rattle.std.proofs.Common.{◌≡◌, ◌⊎◌, ℕ, Bool, true, false, List, Contains, Some, None, sym, ap, subst, ◌∙◌, inl, inr, not, map, slice_get}
 use Rattle.std.specs.FinMap as fin
-use Rattle.std.specs.List.{filter, list_any}
+use Rattle.std.specs.List.{filter, zip}
 use Rattle.std.specs.Option.{option_map_or}
 use Rattle.std.specs.Str.{bytes_eq}
-use Rattle.std.proofs.lemmas.Bool.{cases_Bool, false≢true, and_from, not-true}
-use Rattle.std.proofs.lemmas.Slice.Eq.{bytes_eq-Decides}
+use Rattle.std.proofs.lemmas.Bool.{cases_Bool, false≢true, not-true}
+use Rattle.std.proofs.lemmas.Option.{same_Some}
 use Rattle.command.specs.Instructions.{instruction_fault}
 use Rattle.command.specs.Keys.{KeyParts, key_name}
 use Rattle.command.specs.declared.instruction.Instruction.{Instruction}
@@ -16,30 +16,27 @@ use Rattle.limits.specs.Reach.{AreAllButFar, IsFar, is_reached}
 use Rattle.limits.specs.Laws.TableRules.{from_contained}
 use Rattle.limits.proofs.Unreached.{unreached_is_far}
 use Rattle.roster.specs.Bases.{zone_at}
-use Rattle.roster.specs.Pairings.{holds}
+use Rattle.roster.specs.Pairings.{flown}
 use Rattle.roster.specs.Places.{Place, Placed, history_of, on_ground, others, outside, period}
 use Rattle.roster.specs.Sound.{Sound}
 use Rattle.roster.specs.State.{State, zone_of}
 use Rattle.roster.specs.declared.state.PairingEntry.{PairingEntry}
 use Rattle.roster.proofs.Members.{from_filter, from_map}
 use Rattle.roster.proofs.Standing.{IsPeriod, Stands, among_others, standing}
-use Rattle.part.specs.Near.{NearAnswersCommands, NearPart, needs_judged, needs_near, new_times}
+use Rattle.part.specs.Near.{IsNearPart, NearAnswersCommands, needs_judged, new_times}
 use Rattle.roster.specs.Near.{is_near, period_times}
-use Rattle.part.specs.Part.{grounds_named, is_one_of, judged_by, members_named, needs_ground, needs_outside, outsides_named, pairings_named}
+use Rattle.part.specs.Part.{grounds_named, is_one_of, judged_by, members_named, needs_ground, needs_outside, outsides_named}
 use Rattle.part.proofs.Alike.{Agree, same_step}
-use Rattle.part.proofs.Answers.{one_held}
 use Rattle.part.proofs.Fits.{same_fit}
 use Rattle.part.proofs.Inside.{stands_inside}
+use Rattle.part.proofs.NearPairings.{holds_so}
 use Rattle.part.proofs.NewDuties.{new_in}
 use Rattle.part.proofs.Retained.{from_retained, or_left, or_right, retained, same_name}
 
-module _ (s : State) (key : KeyParts) (instruction : Instruction) (sound : Sound s) where
-  abbrev part : State
-  part = NearPart s key instruction
-
+module _ (s : State) (key : KeyParts) (instruction : Instruction) (sound : Sound s) (part : State) (is : IsNearPart s key instruction part) where
   -- the part has the zone of each judged member
   judged_zone : (who : List ℕ) → is_one_of (judged_by s instruction) who ≡ true → zone_of part who ≡ zone_of s who
-  judged_zone who judged = ap (λ o. zone_at s.bases (option_map_or (λ (m : Member). m.base) o home))
+  judged_zone who judged = ap (λ (t : State). zone_of t who) is.rest ∙ ap (λ o. zone_at s.bases (option_map_or (λ (m : Member). m.base) o home))
       (retained s.crew (needs_judged s instruction) who (or_right (is_one_of (members_named instruction) who) _ judged))
 
   -- ---- What stands
@@ -54,25 +51,36 @@ module _ (s : State) (key : KeyParts) (instruction : Instruction) (sound : Sound
         | inr none ↦ unreached_is_far t.0 d (new_times s instruction) t.2 none
       ]
 
+  -- a pairing that says of another what is so has its periods
+  period_same : (r some : PairingEntry) → some.plan ≡ r.plan → some.actuals ≡ r.actuals → (zone : List ℕ) (number : ℕ) (d : DutyInForce) → IsPeriod zone r number d → IsPeriod zone some number d
+  period_same r some plan actuals zone number d h = record {
+    place = h.place;
+    counted = h.counted;
+    fdp = h.fdp;
+    found = (λ i. slice_get (map flown (zip (plan i).periods (actuals i))) h.place) ∙ h.found;
+    is = h.is;
+  }
+
   stays : (who : List ℕ) → is_one_of (judged_by s instruction) who ≡ true → (place : Place) (d : DutyInForce) → Stands s who place d →
       Stands part who place d ⊎ IsFar (new_times s instruction) d
   stays who judged (period id number) d h =
       elim (cases_Bool (is_near (new_times s instruction) h.0)) [
-        | inl near ↦ inl (
-          h.0,
-          retained s.pairings (needs_near s instruction) id
-              (or_right (is_one_of (pairings_named instruction) id) _
-              (ap (λ o. option_map_or (λ x. list_any (λ name. holds name x) (judged_by s instruction) && is_near (new_times s instruction) x) o false) h.1
-              ∙ and_from _ _ (one_held who (judged_by s instruction) h.0 judged h.2) near))
-              ∙ h.1,
-          h.2,
-          subst (λ zone. IsPeriod zone h.0 number d) (sym (judged_zone who judged)) h.3,
-        )
+        | inl near ↦
+            let has = is.pairings.near who judged id (h.0, h.1, h.2, near) in
+            let so = is.pairings.so id has.0 has.1 in
+            let value : so.0 ≡ h.0 = same_Some so.0 h.0 (sym so.1 ∙ h.1) in
+            inl (
+              has.0,
+              has.1,
+              has.2,
+              subst (λ zone. IsPeriod zone has.0 number d) (sym (judged_zone who judged))
+                  (period_same h.0 has.0 (so.2.plan ∙ ap (λ (r : PairingEntry). r.plan) value) (so.2.actuals ∙ ap (λ (r : PairingEntry). r.actuals) value) (zone_of s who) number d h.3),
+            )
         | inr far ↦ inr (far_of id h.0 h.1 far (zone_of s who) number d h.3)
       ]
   stays who judged (on_ground id) d h = inl (
     h.0,
-    retained s.grounds (needs_ground s instruction) id
+    ap (λ (t : State). fin.get t.grounds id) is.rest ∙ retained s.grounds (needs_ground s instruction) id
         (or_right (is_one_of (grounds_named instruction) id) _
         (ap (λ o. option_map_or (λ x. is_one_of (judged_by s instruction) x.crew) o false) h.1
         ∙ ap (is_one_of (judged_by s instruction)) h.2 ∙ judged))
@@ -82,7 +90,7 @@ module _ (s : State) (key : KeyParts) (instruction : Instruction) (sound : Sound
   )
   stays who judged (outside id) d h = inl (
     h.0,
-    retained s.outsides (needs_outside s instruction) id
+    ap (λ (t : State). fin.get t.outsides id) is.rest ∙ retained s.outsides (needs_outside s instruction) id
         (or_right (is_one_of (outsides_named instruction) id) _
         (ap (λ o. option_map_or (λ x. is_one_of (judged_by s instruction) x.crew) o false) h.1
         ∙ ap (is_one_of (judged_by s instruction)) h.2 ∙ judged))
@@ -93,9 +101,14 @@ module _ (s : State) (key : KeyParts) (instruction : Instruction) (sound : Sound
 
   back : (who : List ℕ) → is_one_of (judged_by s instruction) who ≡ true → (place : Place) (d : DutyInForce) → Stands part who place d → Stands s who place d
   back who judged (period id number) d h =
-      (h.0, (from_retained s.pairings (needs_near s instruction) id h.0 h.1).1, h.2, subst (λ zone. IsPeriod zone h.0 number d) (judged_zone who judged) h.3)
-  back who judged (on_ground id) d h = (h.0, (from_retained s.grounds (needs_ground s instruction) id h.0 h.1).1, h.2, h.3)
-  back who judged (outside id) d h = (h.0, (from_retained s.outsides (needs_outside s instruction) id h.0 h.1).1, h.2, h.3)
+      let so = is.pairings.so id h.0 h.1 in (
+        so.0,
+        so.1,
+        holds_so so.0 h.0 so.2 who h.2,
+        subst (λ zone. IsPeriod zone so.0 number d) (judged_zone who judged) (period_same h.0 so.0 (sym so.2.plan) (sym so.2.actuals) (zone_of part who) number d h.3),
+      )
+  back who judged (on_ground id) d h = (h.0, (from_retained s.grounds (needs_ground s instruction) id h.0 (ap (λ (t : State). fin.get t.grounds id) (sym is.rest) ∙ h.1)).1, h.2, h.3)
+  back who judged (outside id) d h = (h.0, (from_retained s.outsides (needs_outside s instruction) id h.0 (ap (λ (t : State). fin.get t.outsides id) (sym is.rest) ∙ h.1)).1, h.2, h.3)
 
   -- a duty among the others, with its place
   from_others : (t : State) (who : List ℕ) (out : Place → Bool) (d : DutyInForce) → Contains (others t who out) d →
@@ -118,16 +131,16 @@ module _ (s : State) (key : KeyParts) (instruction : Instruction) (sound : Sound
 
   agrees : instruction_fault instruction ≡ None → Agree part s key instruction
   agrees made = record {
-    bases = refl;
+    bases = ap (λ (t : State). t.bases) is.rest;
     zone = judged_zone;
-    request = retained s.requests (bytes_eq (key_name key)) (key_name key) (same_name (key_name key));
-    crew = λ who named. retained s.crew (needs_judged s instruction) who (or_left (is_one_of (members_named instruction) who) _ named);
-    pairings = λ id named. retained s.pairings (needs_near s instruction) id (or_left (is_one_of (pairings_named instruction) id) _ named);
-    grounds = λ id named. retained s.grounds (needs_ground s instruction) id (or_left (is_one_of (grounds_named instruction) id) _ named);
-    outsides = λ id named. retained s.outsides (needs_outside s instruction) id (or_left (is_one_of (outsides_named instruction) id) _ named);
-    fit = λ who judged out new is. same_fit who (others s who out) (others part who out) new (new_times s instruction)
-        (new_in s sound instruction made new is) (all_but_far who judged out);
+    request = ap (λ (t : State). fin.get t.requests (key_name key)) is.rest ∙ retained s.requests (bytes_eq (key_name key)) (key_name key) (same_name (key_name key));
+    crew = λ who named. ap (λ (t : State). fin.get t.crew who) is.rest ∙ retained s.crew (needs_judged s instruction) who (or_left (is_one_of (members_named instruction) who) _ named);
+    pairings = is.pairings.named;
+    grounds = λ id named. ap (λ (t : State). fin.get t.grounds id) is.rest ∙ retained s.grounds (needs_ground s instruction) id (or_left (is_one_of (grounds_named instruction) id) _ named);
+    outsides = λ id named. ap (λ (t : State). fin.get t.outsides id) is.rest ∙ retained s.outsides (needs_outside s instruction) id (or_left (is_one_of (outsides_named instruction) id) _ named);
+    fit = λ who judged out new it. same_fit who (others s who out) (others part who out) new (new_times s instruction)
+        (new_in s sound instruction made new it) (all_but_far who judged out);
   }
 
 pub near_answers_commands : NearAnswersCommands
-near_answers_commands s key instruction sound made = same_step (NearPart s key instruction) s key instruction (agrees s key instruction sound made.0)
+near_answers_commands s part key instruction sound made is = same_step part s key instruction (agrees s key instruction sound part is made.0)

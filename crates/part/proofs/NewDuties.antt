@@ -1,16 +1,15 @@
 -- The new duties of a command that is made lie in the times of its new duties, in a sound state.
-use Rattle.std.proofs.Common.{◌≡◌, ◌⊎◌, ◌+◌, ℕ, Bool, true, false, List, [], ◌∷◌, ◌++◌, Contains, Option, Some, None, refl, sym, ap, subst, ◌∙◌, inl, inr}
-use Rattle.std.specs.Prelude.{ℤ, pos, ◌≤ℤ◌, ◌<ℤ◌, IsTrue}
+use Rattle.std.proofs.Common.{◌≡◌, ℕ, Bool, true, false, List, [], ◌∷◌, Contains, Option, Some, None, refl, sym, ap, subst, ◌∙◌, inl, inr}
+use Rattle.std.specs.Prelude.{ℤ, pos, ◌≤ℤ◌, ◌<ℤ◌}
 use Rattle.std.specs.FinMap as fin
 use Rattle.std.specs.List.{enumerate_from, list_any}
 use Rattle.std.specs.Option.{option_map_or}
 use Rattle.std.proofs.lemmas.Bool.{false≢true}
 use Rattle.std.proofs.lemmas.List.Elements.{Contains-append_left, Contains-append_right}
 use Rattle.duty.specs.DutiesInForce.{in_force}
-use Rattle.duty.specs.FdpTimes.{FdpTimes}
 use Rattle.duty.specs.Minutes.{covers, minutes_in, spans_of}
 use Rattle.duty.specs.Pairings.{actual_fault, outside_fault}
-use Rattle.duty.specs.Plans.{ActualTimes, GroundPlan, flown_at}
+use Rattle.duty.specs.Plans.{ActualTimes, flown_at}
 use Rattle.duty.specs.Shape.{is_id}
 use Rattle.duty.specs.Words.{unless}
 use Rattle.duty.specs.declared.duty_in_force.DutyInForce.{DutyInForce}
@@ -28,7 +27,7 @@ use Rattle.command.specs.Instructions.{instruction_fault}
 use Rattle.command.specs.declared.instruction.Instruction.{Instruction}
 use Rattle.command.specs.declared.instruction.Instruction.TheVariants.{AddBase, AddCrew, AddPairing, CancelPairing, Assign, Release, Swap, AddGround, CancelGround, Actual, RecordOutside}
 use Rattle.roster.specs.Pairings.{periods_in_force}
-use Rattle.roster.specs.Places.{Placed, period, duties, ground_at, outside_duty, periods_at}
+use Rattle.roster.specs.Places.{Placed, period, duties, outside_duty, periods_at}
 use Rattle.roster.specs.Refusals.{duties_of, planned}
 use Rattle.roster.specs.Sound.{Sound}
 use Rattle.roster.specs.State.{State, zone_of}

@@ -4,16 +4,18 @@ use Rattle.std.specs.FinMap as fin
 use Rattle.std.specs.Option.{option_map_or}
 use Rattle.std.specs.Str.{bytes_eq}
 use Rattle.std.proofs.lemmas.Bool.{cases_Bool, true≢false}
-use Rattle.duty.specs.Overlaps.{overlaps}
 use Rattle.duty.specs.declared.fdp.Fdp.{Fdp}
 use Rattle.command.specs.Keys.{KeyParts, key_name}
 use Rattle.command.specs.contracts.member.SeatPartialEq.TheImpl.{ghosts as seats}
 use Rattle.command.specs.declared.instruction.Instruction.{Instruction}
 use Rattle.command.specs.declared.instruction.Instruction.TheVariants.{AddBase, AddCrew, AddPairing, CancelPairing, Assign, Release, Swap, AddGround, CancelGround, Actual, RecordOutside}
-use Rattle.command.specs.declared.refusal.Refusal.TheVariants.{NoSuchCrew, NoSuchPairing, SeatTaken, WrongSeat, NotAssigned, Flown, Overlap, NoSuchDuty, GroundExists, SegmentCount, OutsideTaken}
+use Rattle.command.specs.declared.refusal.Refusal.{Refusal}
+use Rattle.command.specs.declared.refusal.Refusal.TheVariants.{NoSuchCrew, NoSuchPairing, SeatTaken, WrongSeat, NotAssigned, Flown, NoSuchDuty, SegmentCount, OutsideTaken}
 use Rattle.roster.specs.Pairings.{is_held_by, is_flown, is_fully_crewed}
-use Rattle.roster.specs.Places.{no_place, others, ground_at}
-use Rattle.roster.specs.Refusals.{RefusalRow, are_of_two_kinds, broken_by, duties_of, first_of, has_flown, has_free_seat, holder_of_own_seat, is_assigned, is_ground, is_member, is_miscounted, is_pairing, is_taken_from, over_limits, planned, refusals, refusal_of, trade_rows}
+use Rattle.roster.specs.Places.{others}
+use Rattle.roster.specs.Refusals.{RefusalRow, first_of, refusals, refusal_of}
+use Rattle.roster.specs.ByNames.{refusals_by_names}
+use Rattle.roster.proofs.ByNames.{early_refused, names_first, refusals_after}
 use Rattle.roster.specs.State.{State}
 use Rattle.roster.specs.Steps.{answered, judged, step_of}
 use Rattle.roster.specs.declared.change.Verdict.{Verdict}
@@ -25,43 +27,6 @@ use Rattle.part.proofs.Alike.{Agree, first_name, second_name, same_holder, same_
 
 -- ---- Refusals that stand before those of histories
 
-module _ (s : State) where
-  -- the refusals of an instruction that what it names decides, as they stand first
-  abbrev early : Instruction → List RefusalRow
-  early (Assign id who) =
-      (NoSuchCrew, not (is_member s who)) ∷ (NoSuchPairing, not (is_pairing s id)) ∷ (SeatTaken, is_some (holder_of_own_seat s id who)) ∷ []
-  early (Swap w) =
-      (NoSuchCrew, not (is_member s w.crew && is_member s w.other_crew))
-      ∷ (NoSuchPairing, not (is_pairing s w.pairing && is_pairing s w.other_pairing))
-      ∷ (WrongSeat, are_of_two_kinds s w.crew w.other_crew)
-      ∷ (NotAssigned, not (is_assigned s w.pairing w.crew && is_assigned s w.other_pairing w.other_crew))
-      ∷ (Flown, has_flown s w.pairing || has_flown s w.other_pairing)
-      ∷ []
-  early (AddGround g) = (NoSuchCrew, not (is_member s g.crew)) ∷ []
-  early (Actual id a) =
-      (NoSuchPairing, not (is_pairing s id))
-      ∷ (NotAssigned, has_free_seat s id)
-      ∷ (NoSuchDuty, is_none (planned s id a.period))
-      ∷ (SegmentCount a.period, is_miscounted s id a)
-      ∷ []
-  early (RecordOutside who o) = (NoSuchCrew, not (is_member s who)) ∷ (OutsideTaken, is_taken_from s who o.id) ∷ []
-  early instruction = []
-
-  -- those that stand after them
-  abbrev late : Instruction → List RefusalRow
-  late (Assign id who) =
-      (Overlap, overlaps (duties_of s who id) (others s who no_place))
-      ∷ over_limits (broken_by who (others s who no_place) (duties_of s who id))
-      ∷ []
-  late (Swap w) = trade_rows s w (duties_of s w.other_crew w.pairing) (duties_of s w.crew w.other_pairing)
-  late (AddGround g) =
-      let new = (ground_at (g.id, g)).1 ∷ [] in
-      (Overlap, overlaps new (others s g.crew no_place))
-      ∷ over_limits (broken_by g.crew (others s g.crew no_place) new)
-      ∷ (GroundExists, is_ground s g.id)
-      ∷ []
-  late instruction = []
-
 -- no row of these is settled by names
 abbrev AreLate : Instruction → List RefusalRow → Type 0
 AreLate instruction [] = Unit {0}
@@ -69,22 +34,24 @@ AreLate instruction (row ∷ rows) = (is_settled instruction (Refuse row.0) ≡ 
 
 -- the rows of an instruction that is judged by histories: those that its names decide, and then others
 record Splits (s : State) (instruction : Instruction) : Type 0 where
-  pub rows : refusals s instruction ≡ early s instruction ++ late s instruction
-  pub later : AreLate instruction (late s instruction)
+  pub rows : refusals s instruction ≡ refusals_by_names s instruction ++ refusals_after s instruction
+  pub later : AreLate instruction (refusals_after s instruction)
+
+after_names : (s : State) (instruction : Instruction) → has_histories instruction ≡ true → AreLate instruction (refusals_after s instruction)
+after_names s (AddBase id zone) is = cc
+after_names s (AddCrew who member) is = cc
+after_names s (AddPairing plan) is = cc
+after_names s (CancelPairing id) is = cc
+after_names s (Release id who) is = cc
+after_names s (CancelGround id) is = cc
+after_names s (Assign id who) is = (refl, (refl, tt))
+after_names s (Swap w) is = (refl, (refl, tt))
+after_names s (AddGround g) is = (refl, (refl, (refl, tt)))
+after_names s (Actual id a) is = tt
+after_names s (RecordOutside who o) is = tt
 
 splits : (s : State) (instruction : Instruction) → has_histories instruction ≡ true → Splits s instruction
-unfolding refusals
-splits s (AddBase id zone) is = cc
-splits s (AddCrew who member) is = cc
-splits s (AddPairing plan) is = cc
-splits s (CancelPairing id) is = cc
-splits s (Release id who) is = cc
-splits s (CancelGround id) is = cc
-splits s (Assign id who) is = record { rows = refl; later = (refl, (refl, tt)) }
-splits s (Swap w) is = record { rows = refl; later = (refl, (refl, tt)) }
-splits s (AddGround g) is = record { rows = refl; later = (refl, (refl, (refl, tt))) }
-splits s (Actual id a) is = record { rows = refl; later = tt }
-splits s (RecordOutside who o) is = record { rows = refl; later = tt }
+splits s instruction is = record { rows = names_first s instruction; later = after_names s instruction is }
 
 module _ (s t : State) (key : KeyParts) (instruction : Instruction) (is : has_histories instruction ≡ true) where
   -- by others alone nothing is settled
@@ -119,7 +86,8 @@ module _ (s : State) (key : KeyParts) (instruction : Instruction) where
   request_named : fin.get named.requests (key_name key) ≡ fin.get s.requests (key_name key)
   request_named = retained s.requests (bytes_eq (key_name key)) (key_name key) (same_name (key_name key))
 
-same_early : (s : State) (key : KeyParts) (instruction : Instruction) → early (NamedPart s key instruction) instruction ≡ early s instruction
+same_early : (s : State) (key : KeyParts) (instruction : Instruction) → refusals_by_names (NamedPart s key instruction) instruction ≡ refusals_by_names s instruction
+unfolding refusals_by_names
 same_early s key (AddBase id zone) = refl
 same_early s key (AddCrew who member) = refl
 same_early s key (AddPairing plan) = refl
@@ -200,9 +168,9 @@ settled_free s key instruction is settled =
     let there = splits s instruction is in
     let verdict : List RefusalRow → Verdict = λ rows. judged n key instruction (first_of rows) in
     ap verdict here.rows
-    ∙ settles n s key instruction is (early n instruction) (late n instruction) (late s instruction) here.later
+    ∙ settles n s key instruction is (refusals_by_names n instruction) (refusals_after n instruction) (refusals_after s instruction) here.later
     (subst (λ rows. IsTrue (is_settled instruction (verdict rows))) here.rows settled)
-    ∙ ap (λ rows. judged s key instruction (first_of (rows ++ late s instruction))) (same_early s key instruction)
+    ∙ ap (λ rows. judged s key instruction (first_of (rows ++ refusals_after s instruction))) (same_early s key instruction)
     ∙ ap (λ rows. judged s key instruction (first_of rows)) (sym there.rows)
 
 settled_by : (s : State) (key : KeyParts) (instruction : Instruction) → has_histories instruction ≡ true → (o : Option LoggedCommand) →
@@ -227,6 +195,18 @@ names_settle s key instruction settled = elim (cases_Bool (has_histories instruc
   | inl is ↦ with_histories s key instruction is settled
   | inr none ↦ same_step (NamedPart s key instruction) s key instruction (agrees s key instruction none)
 ]
+
+-- a refusal by what is named is the answer under a free key
+pub early_is : (s : State) (key : KeyParts) (instruction : Instruction) (refusal : Refusal) → fin.get s.requests (key_name key) ≡ None →
+    Some refusal ≡ first_of (refusals_by_names (NamedPart s key instruction) instruction) → Refuse refusal ≡ step_of s key instruction
+unfolding step_of
+early_is s key instruction refusal free is =
+    ap (judged s key instruction) (early_refused s instruction refusal (is ∙ ap first_of (same_early s key instruction)))
+    ∙ ap (answered s key instruction) (sym free)
+
+-- an instruction that no history judges is answered by what it names
+pub bare_is : (s : State) (key : KeyParts) (instruction : Instruction) → has_histories instruction ≡ false → step_of (NamedPart s key instruction) key instruction ≡ step_of s key instruction
+bare_is s key instruction none = same_step (NamedPart s key instruction) s key instruction (agrees s key instruction none)
 
 -- what a key holds is the answer
 pub by_key : (s : State) (key : KeyParts) (instruction : Instruction) (held : Option LoggedCommand) → held ≡ fin.get s.requests (key_name key) →

@@ -1,8 +1,7 @@
 -- The part of a state that suffices where histories are judged: no window that meets the new duties
 -- of an instruction reaches the pairings that are left out.
-use Rattle.std.specs.Prelude.{◌≡◌, ℕ, Bool, false, ◌||◌, ◌&&◌, List, [], ◌∷◌, ◌++◌}
+use Rattle.std.specs.Prelude.{◌≡◌, ℕ, Bool, true, ◌||◌, List, [], ◌∷◌, ◌++◌, Some}
 use Rattle.std.specs.FinMap as fin
-use Rattle.std.specs.List.{list_any}
 use Rattle.std.specs.Option.{option_map_or}
 use Rattle.values.specs.Name.{name_cmp}
 use Rattle.duty.specs.declared.span.Span.{Span}
@@ -11,8 +10,9 @@ use Rattle.command.specs.Keys.{KeyParts}
 use Rattle.command.specs.declared.instruction.Instruction.{Instruction}
 use Rattle.command.specs.declared.instruction.Instruction.TheVariants.{Assign, Swap, AddGround}
 use Rattle.command.specs.declared.instruction.Instruction.TheVariants.{Actual, RecordOutside}
-use Rattle.roster.specs.Near.{is_near, period_times}
-use Rattle.roster.specs.Pairings.{holds}
+use Rattle.command.specs.declared.member.Seat.{Seat}
+use Rattle.roster.specs.Near.{IsHeldNear, period_times}
+use Rattle.roster.specs.Pairings.{holder, holds}
 use Rattle.roster.specs.Sound.{Sound}
 use Rattle.roster.specs.State.{State}
 use Rattle.roster.specs.Steps.{step_of}
@@ -40,34 +40,56 @@ new_times s instruction = new_times_in s.pairings instruction
 
 -- ---- What is near them
 
--- an instruction needs a pairing that it names, and each that a judged member holds and that is
--- near the new duties
-abbrev pub needs_near : State → Instruction → List ℕ → Bool
-needs_near s instruction id =
-    is_one_of (pairings_named instruction) id
-    || option_map_or
-    (λ r. list_any (λ who. holds who r) (judged_by s instruction)
-    && is_near (new_times s instruction) r)
-    (fin.get s.pairings id) false
-
 -- an instruction needs a member whom it names, and each whose history it is judged by
 abbrev pub needs_judged : State → Instruction → List ℕ → Bool
 needs_judged s instruction who =
     is_one_of (members_named instruction) who || is_one_of (judged_by s instruction) who
 
--- The part of a state that an instruction under this key needs to be judged: as `Part`, without the
--- pairings that are far from the new duties, and without members who are neither named nor judged.
-abbrev pub NearPart : State → KeyParts → Instruction → State
-NearPart s key instruction = record (Part s key instruction) {
-  crew = fin.retain_keys s.crew (needs_judged s instruction);
-  pairings = fin.retain_keys s.pairings (needs_near s instruction);
-}
+-- A pairing says of another what is so: it has its plan and its actuals, and nobody has a seat in
+-- it who hasn't that seat in the other.
+pub record IsSoOf (r some : PairingEntry) : Type 0 where
+  pub plan : some.plan ≡ r.plan
+  pub actuals : some.actuals ≡ r.actuals
+  pub seats : (seat : Seat) (who : List ℕ) → holder seat some ≡ Some who → holder seat r ≡ Some who
+
+-- each of these is a pairing of the state, and says of it what is so
+abbrev pub AreSo : State → fin.FinMap name_cmp PairingEntry → Type 0
+AreSo s pairings = (id : List ℕ) (some : PairingEntry) → fin.get pairings id ≡ Some some →
+    (r : PairingEntry) × (fin.get s.pairings id ≡ Some r) × IsSoOf r some
+
+-- these pairings have the one of this id, with the member in a seat
+abbrev pub HaveHeld : fin.FinMap name_cmp PairingEntry → List ℕ → List ℕ → Type 0
+HaveHeld pairings who id =
+    (r : PairingEntry) × (fin.get pairings id ≡ Some r) × (holds who r ≡ true)
+
+-- Some of a state's pairings, those near the new duties of an instruction among them. They have
+-- each that the instruction names, as it is; and each that a judged member holds and that is near
+-- the new duties, with this member in a seat. Who has the other seat of such a pairing may be left
+-- out.
+pub record HasNear (s : State) (instruction : Instruction)
+    (some : fin.FinMap name_cmp PairingEntry) : Type 0 where
+  pub named : (id : List ℕ) → is_one_of (pairings_named instruction) id ≡ true →
+      fin.get some id ≡ fin.get s.pairings id
+  pub so : AreSo s some
+  pub near : (who : List ℕ) → is_one_of (judged_by s instruction) who ≡ true → (id : List ℕ) →
+      IsHeldNear s (new_times s instruction) who id → HaveHeld some who id
+
+-- A part of a state that an instruction under this key needs to be judged: as `Part`, but of the
+-- pairings those near the new duties suffice, and members who are neither named nor judged are left
+-- out.
+pub record IsNearPart (s : State) (key : KeyParts) (instruction : Instruction) (part : State)
+    : Type 0 where
+  pub pairings : HasNear s instruction part.pairings
+  pub rest : part ≡ record (Part s key instruction) {
+    crew = fin.retain_keys s.crew (needs_judged s instruction);
+    pairings = part.pairings;
+  }
 
 -- ---- A law
 
--- the near part of a sound state answers each command as the whole state does: with the same
--- verdict, reply and change
+-- a near part of a sound state answers each command as the whole state does: with the same verdict,
+-- reply and change
 abbrev pub NearAnswersCommands : Type 0
-NearAnswersCommands = (s : State) (key : KeyParts) (instruction : Instruction) → Sound s →
-    IsMade instruction →
-    step_of (NearPart s key instruction) key instruction ≡ step_of s key instruction
+NearAnswersCommands = (s part : State) (key : KeyParts) (instruction : Instruction) → Sound s →
+    IsMade instruction → IsNearPart s key instruction part →
+    step_of part key instruction ≡ step_of s key instruction

@@ -5,15 +5,19 @@ use Rattle.std.specs.FinMap as fin
 use Rattle.std.specs.List.{Contains, fold, flat_map}
 use Rattle.std.specs.Option.{option_map_or}
 use Rattle.std.specs.Str.{bytes_eq}
-use Rattle.values.specs.Name.{name_cmp}
+use Rattle.values.specs.Name.{changed_at, name_cmp}
 use Rattle.duty.specs.Plans.{GroundPlan}
 use Rattle.command.specs.Keys.{KeyParts, key_name}
 use Rattle.command.specs.declared.instruction.Instruction.{Instruction}
+use Rattle.command.specs.declared.member.Member.{Member}
+use Rattle.command.specs.declared.member.Seat.{Seat}
 use Rattle.part.specs.Part.{grounds_named, grounds_needed, holders, is_one_of, judged_by}
 use Rattle.part.specs.Part.{members_named, outsides_named, outsides_needed}
 use Rattle.duty.specs.declared.span.Span.{Span}
 use Rattle.roster.specs.Holding.{IsGroundOf, IsHeldBy, IsOutsideOf}
+use Rattle.part.specs.Near.{AreSo, HaveHeld}
 use Rattle.roster.specs.Near.{IsHeldNear}
+use Rattle.roster.specs.Pairings.{with_holder}
 use Rattle.roster.specs.State.{State}
 use Rattle.roster.specs.declared.state.OutsideEntry.{OutsideEntry}
 use Rattle.roster.specs.declared.state.PairingEntry.{PairingEntry}
@@ -76,10 +80,6 @@ IsPartOf {V} part whole =
 abbrev pub IsHeldByOne : State → List (List ℕ) → List ℕ → Type 0
 IsHeldByOne s names id = (who : List ℕ) × Contains names who × IsHeldBy s who id
 
--- one of these members holds a seat of the pairing with this id, which is near some spans
-abbrev pub IsNearOfOne : State → List Span → List (List ℕ) → List ℕ → Type 0
-IsNearOfOne s spans names id = (who : List ℕ) × Contains names who × IsHeldNear s spans who id
-
 -- the ground duty with this id is of one of these members
 abbrev pub IsGroundOfOne : State → List (List ℕ) → List ℕ → Type 0
 IsGroundOfOne s names id = (who : List ℕ) × Contains names who × IsGroundOf s who id
@@ -97,6 +97,31 @@ members_wanted instruction pairings grounds outsides =
     ((members_named instruction ++ flat_map (λ row. holders row.1) (fin.entries pairings))
     ++ map (λ row. row.1.crew) (fin.entries grounds))
     ++ map (λ row. row.1.crew) (fin.entries outsides)
+
+-- these pairings with one more, whose seats are free; then with this member in a seat of it
+abbrev pub with_held : Seat → List ℕ → PairingEntry → fin.FinMap name_cmp PairingEntry
+    → fin.FinMap name_cmp PairingEntry
+with_held seat who free pairings =
+    changed_at
+    (if fin.contains_key pairings free.plan.id then pairings else
+    fin.insert pairings free.plan.id free)
+    free.plan.id
+    (with_holder seat (Some who))
+
+-- The second pairings are the first with those that these members hold and that are near some
+-- spans, each with the member in a seat. What was whole is whole, and what is said is so if it was.
+pub record AddsNear (s : State) (spans : List Span) (names : List (List ℕ))
+    (some more : fin.FinMap name_cmp PairingEntry) : Type 0 where
+  pub whole : (id : List ℕ) → fin.get some id ≡ fin.get s.pairings id →
+      fin.get more id ≡ fin.get s.pairings id
+  pub so : AreSo s some → AreSo s more
+  pub kept : AreSo s some → (who id : List ℕ) → HaveHeld some who id → HaveHeld more who id
+  pub near : AreSo s some → (who : List ℕ) → Contains names who → (id : List ℕ) →
+      IsHeldNear s spans who id → HaveHeld more who id
+
+-- the member is there, and flies in this seat
+abbrev pub FliesIn : State → Seat → List ℕ → Type 0
+FliesIn s seat who = (m : Member) × (fin.get s.crew who ≡ Some m) × (m.seat ≡ seat)
 
 -- The second part is the first with the ground duties and outside periods that an instruction
 -- needs, if the first has those that the instruction names, and these are the members judged.

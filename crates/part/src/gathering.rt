@@ -17,7 +17,7 @@ use std::alloc::Global;
 use values::{MemoryFault, OrdMap};
 
 /// Adds all values of a list to another.
-pub(crate) fn add_all<T: Drop>(list: &mut Vec<T>, other: Vec<T>) -> Result<(), MemoryFault>
+fn add_all<T: Drop>(list: &mut Vec<T>, other: Vec<T>) -> Result<(), MemoryFault>
     ensures { OnOk result (list.new.items ≡ list.old.items ++ other.items) }
 {
     let mut other = other;

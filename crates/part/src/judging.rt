@@ -1,10 +1,10 @@
 //! The verdict on a command by a source of which no more is read than that takes. Its definition is `step_of`
-//! (`roster/specs/Steps.antt`); what is settled by names is `is_settled` (`specs/Part.antt`).
+//! (`roster/specs/Steps.antt`); what names decide is `refusals_by_names` (`roster/specs/ByNames.antt`).
 //! Through the program: `tests/answers.py`. Wrong bodies: `must-fail-more/`.
 
-ghost use Rattle.std.specs.Prelude.{◌≡◌, IfErr, IfOk, IfSome, IsTrue, OnOk, Some};
+ghost use Rattle.std.specs.Prelude.{◌≡◌, IfErr, OnOk, Some};
 ghost use Rattle.command.specs.Keys.{KeyParts};
-ghost use Rattle.part.specs.Part.{has_histories, is_settled};
+ghost use Rattle.part.specs.Part.{has_histories};
 ghost use Rattle.part.specs.Sources.{IsCauseOfGathering, TellsOfState};
 ghost use Rattle.roster.specs.State.{State};
 ghost use Rattle.roster.specs.Steps.{answered, step_of};
@@ -13,9 +13,8 @@ use crate::gathering::{add_named, gather_bases};
 use crate::near::add_near;
 use crate::source::Source;
 use command::{Command, Instruction, Key, Refusal};
-use roster::{LoggedCommand, Roster, Verdict};
+use roster::{LoggedCommand, Verdict};
 use std::alloc::Global;
-use values::MemoryFault;
 
 /// Answers a command by what its key holds.
 fn answer_from_log(kept: LoggedCommand, command: &Command) -> Verdict
@@ -47,37 +46,8 @@ fn has_histories(instruction: &Instruction) -> bool
     }
 }
 
-/// Returns whether no history can change a verdict by what an instruction names.
-fn is_settled(instruction: &Instruction, verdict: &Verdict) -> bool
-    ensures { result ≡ is_settled instruction.now verdict.now }
-{
-    match verdict {
-        Verdict::Refuse(Refusal::Overlap | Refusal::Limits(_) | Refusal::GroundExists) => false,
-        Verdict::Refuse(_) | Verdict::Repeat(_) => true,
-        Verdict::Accept(..) => !has_histories(instruction),
-    }
-}
-
-/// Judges a command by what it names, if that settles the verdict.
-fn settle(
-    alloc: Global,
-    named: &Roster,
-    key: Key,
-    command: &Command,
-) -> Result<Option<Verdict>, MemoryFault>
-    ensures { IfOk result (λ settled. IfSome settled
-        (λ verdict. (verdict ≡ step_of named.now key command.now)
-        × IsTrue (is_settled command.now verdict))) }
-{
-    let verdict = named.step(alloc, key, command)?;
-    if is_settled(command.instruction(), &verdict) {
-        return Ok(Some(verdict));
-    }
-    Ok(None)
-}
-
 /// Judges a command under its key, and reads no more than that takes: first what the key holds, then what the command
-/// names, and only if these don't settle the verdict the duties that its windows reach of the members whom it judges.
+/// names, and only if no refusal comes of that the duties that its windows reach of the members whom it judges.
 pub fn judge<S: Source>(
     alloc: Global,
     source: &mut S,
@@ -98,8 +68,11 @@ pub fn judge<S: Source>(
     let instruction = command.instruction();
     let mut part = gather_bases(alloc, source)?;
     add_named(alloc, source, instruction, &mut part)?;
-    if let Some(verdict) = settle(alloc, &part, key, command)? {
-        return Ok(verdict);
+    if let Some(refusal) = part.refusal_by_names(instruction) {
+        return Ok(Verdict::Refuse(refusal));
+    }
+    if !has_histories(instruction) {
+        return Ok(part.step(alloc, key, command)?);
     }
     add_near(alloc, source, instruction, &mut part)?;
     Ok(part.step(alloc, key, command)?)

@@ -6,7 +6,7 @@ ghost use Rattle.command.specs.Keys.{key_name};
 ghost use Rattle.roster.specs.State.{State};
 ghost use Rattle.roster.specs.Holding.{IsHeldBy, IsGroundOf, IsOutsideOf, AreJust};
 ghost use Rattle.roster.specs.Refusals.{is_member, is_pairing};
-ghost use Rattle.roster.specs.Near.{IsHeldNear};
+ghost use Rattle.roster.specs.Near.{AreHeldNear};
 ghost use Rattle.part.specs.Shown.{is_under};
 ghost use Rattle.part.specs.Sources.{TellsOfState};
 ghost use Rattle.roster.specs.Sound.{Sound};
@@ -135,16 +135,16 @@ pub trait Source {
         ensures caused { IfErr result (fails self.old self.new) }
         ensures serves { OnOk result (serves self.old self.new) };
 
-    /// Reads the ids of the pairings that a member holds and that are near some spans, in any order: a window may have a minute
-    /// of one of the spans and of one of the pairing's periods.
+    /// Reads the pairings that a member holds and that are near some spans, in any order and with their seats free: a window may
+    /// have a minute of one of the spans and of one of the pairing's periods.
     fn pairings_near(
         &mut self,
         alloc: Global,
         who: &CrewId,
         spans: &[Span],
-    ) -> Result<Vec<PairingId>, Self::Fault>
+    ) -> Result<Vec<PairingEntry>, Self::Fault>
         ensures told { TellsOfState is_clean shows
-            (λ s found. AreJust (IsHeldNear s spans.now who.now) found.items)
+            (λ s found. AreHeldNear s spans.now who.now found.items)
             self.old self.new result }
         ensures left { stays self.old self.new }
         ensures caused { IfErr result (fails self.old self.new) }

@@ -106,7 +106,7 @@ impl<S: Alter> Source for Store<S> {
         alloc: Global,
         who: &CrewId,
         spans: &[Span],
-    ) -> Result<Vec<PairingId>, StoreFault> {
+    ) -> Result<Vec<PairingEntry>, StoreFault> {
         pairings_near_at(alloc, &mut self.conn, who, spans)
     }
 

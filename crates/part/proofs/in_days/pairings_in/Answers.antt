@@ -1,4 +1,3 @@
-use Rattle.std.proofs.Common.{inl}
 use Rattle.std.proofs.lemmas.Result.{err_from_is_err_and}
 use Rattle.part.proofs.Causes.{caused_then}
 use Rattle.part.proofs.InDays.{pairings_are_in}

@@ -1,72 +1,64 @@
-use Rattle.std.proofs.Common.{◌∙◌, ap}
+use Rattle.std.proofs.Common.{◌∙◌, ap, subst, sym}
 use Rattle.std.proofs.lemmas.Result.{err_from_is_err_and}
 use Rattle.roster.specs.State.{State}
+use Rattle.part.specs.Near.{HasNear}
 use Rattle.part.proofs.Causes.{caused_then}
 use Rattle.part.proofs.Picked.{judged_same}
-use Rattle.part.proofs.PickedNear.{judged_as, near_as, times_same}
+use Rattle.part.proofs.PickedNear.{crew_known, judged_as, near_as, times_same}
 use Rattle.part.proofs.near.add_near.Goals as goal
 
 pub returns-clause-told : goal.returns-clause-told
 returns-clause-told g c = (
-  λ clean. c.near_of_one.ensures.told.0 (c.pick_pairings.ensures.told.0 (c.add_other_duties.ensures.told.0 (c.pick_members.ensures.told.0 clean))),
+  λ clean. c.pick_members.ensures.told.0 (c.add_near_of_all.ensures.told.0 (c.add_other_duties.ensures.told.0 clean)),
   λ clean s shows.
-      let third = c.pick_members.ensures.told.0 clean in
-      let second = c.add_other_duties.ensures.told.0 third in
-      let first = c.pick_pairings.ensures.told.0 second in
-      let near = c.in_ok-near.ensures.told.1 first s shows in
-      let plans = c.in_ok-pick_pairings.ensures.told.1 second s near.0 in
-      let others = c.in_ok-add_other_duties.ensures.told.1 third s plans.0 in
-      let members = c.in_ok-pick_members.ensures.told.1 clean s others.0 in
+      let second = c.add_other_duties.ensures.told.0 clean in
+      let first = c.add_near_of_all.ensures.told.0 second in
+      let members = c.in_ok-pick_members.ensures.told.1 first s shows in
+      let near = c.in_ok-add_near_of_all.ensures.told.1 second s members.0 in
+      let others = c.in_ok-add_other_duties.ensures.told.1 clean s near.0 in
       let instruction = c.args.instruction.now in (
-        members.0,
+        others.0,
         λ key named.
             let named_pairings = ap (λ (x : State). x.pairings) named in
             let judged = c.in_ok-judged.ensures ∙ judged_same s instruction _ named_pairings in
             let spans = c.in_ok-spans.ensures ∙ times_same s instruction _ named_pairings in
-            let pairings = near_as s instruction _ _ _ _ _ _ named_pairings (c.deref.ensures.value ∙ judged) (c.deref-2.ensures.value ∙ spans) near.1 c.deref-3.ensures.value plans.1 in
+            let crew = judged_as s instruction _ _ _ (ap (λ (x : State). x.crew) named) (c.deref.ensures.value ∙ judged) members.1 in
+            let known = crew_known s instruction _ _ crew (c.deref-2.ensures.value ∙ judged) in
+            let pairings = near_as s instruction _ _ _ _ named_pairings (c.deref-2.ensures.value ∙ judged) (c.deref-3.ensures.value ∙ spans) (near.1 known) in
             let duties = others.1 instruction (c.deref-4.ensures.value ∙ judged) (ap (λ (x : State). x.grounds) named) (ap (λ (x : State). x.outsides) named) in
-            let crew = judged_as s instruction _ _ _ (ap (λ (x : State). x.crew) duties ∙ ap (λ (x : State). x.crew) named) (c.deref-5.ensures.value ∙ judged) members.1 in
-            let bases = ap (λ (x : State). x.bases) duties ∙ ap (λ (x : State). x.bases) named in
-            let exceedances = ap (λ (x : State). x.exceedances) duties ∙ ap (λ (x : State). x.exceedances) named in
-            let requests = ap (λ (x : State). x.requests) duties ∙ ap (λ (x : State). x.requests) named in
-            λ i. record {
-              bases = bases i;
-              crew = crew i;
-              pairings = (ap (λ (x : State). x.pairings) duties ∙ pairings) i;
-              grounds = (ap (λ (x : State). x.grounds) duties) i;
-              outsides = (ap (λ (x : State). x.outsides) duties) i;
-              exceedances = exceedances i;
-              requests = requests i;
+            record {
+              pairings = subst (HasNear s instruction) (ap (λ (x : State). x.pairings) (sym duties)) pairings;
+              rest = λ i. record {
+                bases = (ap (λ (x : State). x.bases) duties ∙ ap (λ (x : State). x.bases) named) i;
+                crew = (ap (λ (x : State). x.crew) duties ∙ crew) i;
+                pairings = c.add_other_duties.new.part.pairings;
+                grounds = (ap (λ (x : State). x.grounds) duties) i;
+                outsides = (ap (λ (x : State). x.outsides) duties) i;
+                exceedances = (ap (λ (x : State). x.exceedances) duties ∙ ap (λ (x : State). x.exceedances) named) i;
+                requests = (ap (λ (x : State). x.requests) duties ∙ ap (λ (x : State). x.requests) named) i;
+              };
             },
       ),
 )
 
-pub returns-in_err-pick_pairings-clause-left : goal.returns-in_err-pick_pairings-clause-left
-returns-in_err-pick_pairings-clause-left g c = g.S.Source.and_then _ _ _ c.near_of_one.ensures.left c.pick_pairings.ensures.left
+pub returns-in_err-add_near_of_all-clause-left : goal.returns-in_err-add_near_of_all-clause-left
+returns-in_err-add_near_of_all-clause-left g c = g.S.Source.and_then _ _ _ c.pick_members.ensures.left c.add_near_of_all.ensures.left
 
-pub returns-in_err-pick_pairings-clause-caused : goal.returns-in_err-pick_pairings-clause-caused
-returns-in_err-pick_pairings-clause-caused g c =
-    let p = err_from_is_err_and c.from_residual-in_err-pick_pairings.result c.from_residual-in_err-pick_pairings.ensures.1 in
-    rw (p.1, p.2) (caused_then g.S.Source.fails g.S.Fault.From.from_gives g.S.Source.stays g.S.Source.fails_then _ _ _ _ c.near_of_one.ensures.left c.pick_pairings.ensures.left c.in_err-pick_pairings.ensures.caused)
+pub returns-in_err-add_near_of_all-clause-caused : goal.returns-in_err-add_near_of_all-clause-caused
+returns-in_err-add_near_of_all-clause-caused g c =
+    let p = err_from_is_err_and c.from_residual-in_err-add_near_of_all.result c.from_residual-in_err-add_near_of_all.ensures.1 in
+    rw (p.1, p.2) (caused_then g.S.Source.fails g.S.Fault.From.from_gives g.S.Source.stays g.S.Source.fails_then _ _ _ _ c.pick_members.ensures.left c.add_near_of_all.ensures.left c.in_err-add_near_of_all.ensures.caused)
 
 pub returns-in_err-add_other_duties-clause-left : goal.returns-in_err-add_other_duties-clause-left
-returns-in_err-add_other_duties-clause-left g c = g.S.Source.and_then _ _ _ c.near_of_one.ensures.left (g.S.Source.and_then _ _ _ c.pick_pairings.ensures.left c.add_other_duties.ensures.left)
+returns-in_err-add_other_duties-clause-left g c = g.S.Source.and_then _ _ _ c.pick_members.ensures.left (g.S.Source.and_then _ _ _ c.add_near_of_all.ensures.left c.add_other_duties.ensures.left)
 
 pub returns-in_err-add_other_duties-clause-caused : goal.returns-in_err-add_other_duties-clause-caused
 returns-in_err-add_other_duties-clause-caused g c =
     let p = err_from_is_err_and c.from_residual-in_err-add_other_duties.result c.from_residual-in_err-add_other_duties.ensures.1 in
-    rw (p.1, p.2) (caused_then g.S.Source.fails g.S.Fault.From.from_gives g.S.Source.stays g.S.Source.fails_then _ _ _ _ (g.S.Source.and_then _ _ _ c.near_of_one.ensures.left c.pick_pairings.ensures.left) c.add_other_duties.ensures.left c.in_err-add_other_duties.ensures.caused)
-
-pub returns-in_err-pick_members-clause-left : goal.returns-in_err-pick_members-clause-left
-returns-in_err-pick_members-clause-left g c = g.S.Source.and_then _ _ _ c.near_of_one.ensures.left (g.S.Source.and_then _ _ _ c.pick_pairings.ensures.left (g.S.Source.and_then _ _ _ c.add_other_duties.ensures.left c.pick_members.ensures.left))
-
-pub returns-in_err-pick_members-clause-caused : goal.returns-in_err-pick_members-clause-caused
-returns-in_err-pick_members-clause-caused g c =
-    let p = err_from_is_err_and c.from_residual-in_err-pick_members.result c.from_residual-in_err-pick_members.ensures.1 in
-    rw (p.1, p.2) (caused_then g.S.Source.fails g.S.Fault.From.from_gives g.S.Source.stays g.S.Source.fails_then _ _ _ _ (g.S.Source.and_then _ _ _ c.near_of_one.ensures.left (g.S.Source.and_then _ _ _ c.pick_pairings.ensures.left c.add_other_duties.ensures.left)) c.pick_members.ensures.left c.in_err-pick_members.ensures.caused)
+    rw (p.1, p.2) (caused_then g.S.Source.fails g.S.Fault.From.from_gives g.S.Source.stays g.S.Source.fails_then _ _ _ _ (g.S.Source.and_then _ _ _ c.pick_members.ensures.left c.add_near_of_all.ensures.left) c.add_other_duties.ensures.left c.in_err-add_other_duties.ensures.caused)
 
 pub returns-clause-left : goal.returns-clause-left
-returns-clause-left g c = g.S.Source.and_then _ _ _ c.near_of_one.ensures.left (g.S.Source.and_then _ _ _ c.pick_pairings.ensures.left (g.S.Source.and_then _ _ _ c.add_other_duties.ensures.left c.pick_members.ensures.left))
+returns-clause-left g c = g.S.Source.and_then _ _ _ c.pick_members.ensures.left (g.S.Source.and_then _ _ _ c.add_near_of_all.ensures.left c.add_other_duties.ensures.left)
 
 pub returns-clause-serves : goal.returns-clause-serves
-returns-clause-serves g c = g.S.Source.serves_then _ _ _ c.in_ok-near.ensures.serves (g.S.Source.serves_then _ _ _ c.in_ok-pick_pairings.ensures.serves (g.S.Source.serves_then _ _ _ c.in_ok-add_other_duties.ensures.serves c.in_ok-pick_members.ensures.serves))
+returns-clause-serves g c = g.S.Source.serves_then _ _ _ c.in_ok-pick_members.ensures.serves (g.S.Source.serves_then _ _ _ c.in_ok-add_near_of_all.ensures.serves c.in_ok-add_other_duties.ensures.serves)
