@@ -89,6 +89,12 @@ pub record IsWithoutHolders (s : State) (id : List ℕ) (free : PairingEntry) : 
 abbrev pub AreWithoutHolders : State → List (List ℕ) → List PairingEntry → Type 0
 AreWithoutHolders s ids found = (ids_of found ≡ ids) × AreThere s found
 
+-- these pairings are the state's, each under its id, but for who holds them
+abbrev pub AreKnownSo : State → fin.FinMap name_cmp PairingEntry → Type 0
+AreKnownSo s known = (id : List ℕ) (some : PairingEntry) → fin.get known id ≡ Some some →
+    (r : PairingEntry) × (fin.get s.pairings id ≡ Some r)
+    × (with_free_seats some ≡ with_free_seats r)
+
 -- Entries are read of which some records are at hand. Nothing is changed. Where those are the
 -- records of the state that is shown, the answer is what that state has, and a fault of the store
 -- has a cause.

@@ -9,9 +9,9 @@ ghost use Rattle.tables.specs.Rows.{begins_with};
 ghost use Rattle.state_rows.specs.Outcomes.{IsOutside, IsOverBook};
 ghost use Rattle.state_rows.specs.Rows.{segment};
 ghost use Rattle.entries.specs.Keyed.{AtInstants};
-ghost use Rattle.roster.specs.Near.{AreHeldNear};
+ghost use Rattle.roster.specs.Near.{AreHeldNear, with_free_seats};
 ghost use Rattle.lookup.specs.Near as spec;
-ghost use Rattle.lookup.specs.Near.{AreWithoutHolders, AreByPairing, HasPeriodRows, HavePeriodRows, IsWithoutHolders, ReadsHeld, ReadsKnown};
+ghost use Rattle.lookup.specs.Near.{AreKnownSo, AreWithoutHolders, AreByPairing, HasPeriodRows, HavePeriodRows, IsWithoutHolders, ReadsHeld, ReadsKnown};
 ghost use Rattle.lookup.specs.Reads.{ReadsByKey, ReadsRows};
 
 use crate::pairing::as_store_fault;
@@ -25,7 +25,7 @@ use std::alloc::Global;
 use tables::period::{PeriodRecord, periods_held_by};
 use tables::segment::{SegmentRecord, segments_of};
 use time117::Minute;
-use values::{MemoryFault, TryClone};
+use values::{MemoryFault, OrdMap, TryClone};
 
 /// Reads the records of the periods of the pairings that a member holds.
 #[tactic(auto, using(crate::proofs::NearReads::was_read, crate::proofs::NearReads::not_read, crate::proofs::ReadLemmas::holds_open))]
@@ -149,6 +149,38 @@ fn free_pairing<S: Alter>(
     }
 }
 
+/// Copies a pairing with its seats free.
+fn without_holders(alloc: Global, pairing: &PairingEntry) -> Result<PairingEntry, MemoryFault>
+    ensures { IfOk result (λ free. free ≡ with_free_seats pairing.now) }
+{
+    Ok(PairingEntry {
+        plan: pairing.plan.try_clone(alloc)?,
+        actuals: pairing.actuals.try_clone(alloc)?,
+        captain: None,
+        first_officer: None,
+    })
+}
+
+/// Returns the pairing of an id with its seats free: a copy, if it is known, or else as it is read.
+fn known_or_read<S: Alter>(
+    alloc: Global,
+    conn: &mut Connection<S>,
+    known: &OrdMap<PairingId, PairingEntry>,
+    id: &PairingId,
+    periods: &[PeriodRecord],
+) -> Result<PairingEntry, StoreFault>
+    requires outside { IsOutside (state S.Store conn.old) }
+    requires over { IsOverBook (state S.Store conn.old) }
+    ensures { ReadsKnown (λ s. HasPeriodRows s id.now periods.now)
+        (λ s free. AreKnownSo s known.now → IsWithoutHolders s id.now free)
+        (state S.Store conn.old) (state S.Store conn.new) result }
+{
+    match known.get(id) {
+        Some(pairing) => Ok(without_holders(alloc, pairing)?),
+        None => free_pairing(alloc, conn, id, periods),
+    }
+}
+
 /// Adds a pairing to a list.
 fn add_pairing(found: &mut Vec<PairingEntry>, free: PairingEntry) -> Result<(), MemoryFault>
     ensures { OnOk result (found.new.items ≡ found.old.items ++ free ∷ []) }
@@ -156,11 +188,12 @@ fn add_pairing(found: &mut Vec<PairingEntry>, free: PairingEntry) -> Result<(), 
     Ok(found.push(free)?)
 }
 
-/// Reads the pairings of some ids, each with its seats free. The records of their periods are among some in the order of their
-/// pairings.
+/// Lists the pairings of some ids, each with its seats free; what is known isn't read. The records of their periods are among
+/// some in the order of their pairings.
 fn free_pairings<S: Alter>(
     alloc: Global,
     conn: &mut Connection<S>,
+    known: &OrdMap<PairingId, PairingEntry>,
     ids: &[PairingId],
     records: &[PeriodRecord],
 ) -> Result<Vec<PairingEntry>, StoreFault>
@@ -168,35 +201,39 @@ fn free_pairings<S: Alter>(
     requires over { IsOverBook (state S.Store conn.old) }
     requires ordered { AreByPairing records.now }
     ensures { ReadsKnown (λ s. HavePeriodRows s ids.now records.now)
-        (λ s found. AreWithoutHolders s ids.now found.items) (state S.Store conn.old)
+        (λ s found. AreKnownSo s known.now → AreWithoutHolders s ids.now found.items)
+        (state S.Store conn.old)
         (state S.Store conn.new) result }
 {
     let mut found = Vec::new(alloc);
     for id in ids {
-        let free = free_pairing(alloc, conn, id, records_of(records, id.as_str()))?;
+        let periods = records_of(records, id.as_str());
+        let free = known_or_read(alloc, conn, known, id, periods)?;
         add_pairing(&mut found, free)?;
     }
     Ok(found)
 }
 
-/// Reads the pairings that a member holds and that are near some spans, each with its seats free: a window may have a minute of
+/// Lists the pairings that a member holds and that are near some spans, each with its seats free: a window may have a minute of
 /// one of the spans and of one of the pairing's periods. Of a pairing that is far from them no more is read than its periods, and
-/// of a near one its segments besides.
+/// of a near one its segments besides, unless it is known.
 #[tactic(auto, using(crate::proofs::Causes::not_told))]
 pub fn pairings_near_at<S: Alter>(
     alloc: Global,
     conn: &mut Connection<S>,
     who: &CrewId,
     spans: &[Span],
+    known: &OrdMap<PairingId, PairingEntry>,
 ) -> Result<Vec<PairingEntry>, StoreFault>
     requires outside { IsOutside (state S.Store conn.old) }
     requires over { IsOverBook (state S.Store conn.old) }
-    ensures { ReadsByKey (λ s found. AreHeldNear s spans.now who.now found.items)
+    ensures { ReadsByKey (λ s found. AreKnownSo s known.now
+        → AreHeldNear s spans.now who.now found.items)
         (state S.Store conn.old) (state S.Store conn.new) result }
 {
     let records = in_order(held_rows(alloc, conn, who.as_str())?);
     let mut ids = ids_near(alloc, &records, spans)?;
     // The id of a pairing stands here once for each of its near periods, one beside the other.
     ids.dedup();
-    free_pairings(alloc, conn, &ids, &records)
+    free_pairings(alloc, conn, known, &ids, &records)
 }

@@ -42,7 +42,7 @@ module _ (s : State) where
 
 module _ (s : State) (instruction : Instruction) where
   -- the named pairings are the state's
-  named_so : (p : fin.FinMap name_cmp PairingEntry) → p ≡ fin.retain_keys s.pairings (is_one_of (pairings_named instruction)) → AreSo s p
+  pub named_so : (p : fin.FinMap name_cmp PairingEntry) → p ≡ fin.retain_keys s.pairings (is_one_of (pairings_named instruction)) → AreSo s p
   named_so p is id some there =
       let known = from_retained s.pairings (is_one_of (pairings_named instruction)) id some (ap (λ m. fin.get m id) (sym is) ∙ there) in
       (some, known.1, record { plan = refl; actuals = refl; seats = λ x who held. held })

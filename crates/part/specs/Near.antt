@@ -45,14 +45,14 @@ abbrev pub needs_judged : State → Instruction → List ℕ → Bool
 needs_judged s instruction who =
     is_one_of (members_named instruction) who || is_one_of (judged_by s instruction) who
 
--- A pairing says of another what is so: it has its plan and its actuals, and nobody has a seat in
--- it who hasn't that seat in the other.
+-- A pairing is true of another: it has the same plan and actuals, and nobody in a seat who hasn't
+-- that seat in the other.
 pub record IsSoOf (r some : PairingEntry) : Type 0 where
   pub plan : some.plan ≡ r.plan
   pub actuals : some.actuals ≡ r.actuals
   pub seats : (seat : Seat) (who : List ℕ) → holder seat some ≡ Some who → holder seat r ≡ Some who
 
--- each of these is a pairing of the state, and says of it what is so
+-- each of these is true of the state's pairing under its id
 abbrev pub AreSo : State → fin.FinMap name_cmp PairingEntry → Type 0
 AreSo s pairings = (id : List ℕ) (some : PairingEntry) → fin.get pairings id ≡ Some some →
     (r : PairingEntry) × (fin.get s.pairings id ≡ Some r) × IsSoOf r some
@@ -62,10 +62,9 @@ abbrev pub HaveHeld : fin.FinMap name_cmp PairingEntry → List ℕ → List ℕ
 HaveHeld pairings who id =
     (r : PairingEntry) × (fin.get pairings id ≡ Some r) × (holds who r ≡ true)
 
--- Some of a state's pairings, those near the new duties of an instruction among them. They have
--- each that the instruction names, as it is; and each that a judged member holds and that is near
--- the new duties, with this member in a seat. Who has the other seat of such a pairing may be left
--- out.
+-- Some of a state's pairings. They have each that the instruction names, as it is; and each that a
+-- judged member holds and that is near the new duties, with this member in a seat. Who has the
+-- other seat of such a pairing may be left out.
 pub record HasNear (s : State) (instruction : Instruction)
     (some : fin.FinMap name_cmp PairingEntry) : Type 0 where
   pub named : (id : List ℕ) → is_one_of (pairings_named instruction) id ≡ true →

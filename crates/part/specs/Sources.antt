@@ -108,8 +108,9 @@ with_held seat who free pairings =
     free.plan.id
     (with_holder seat (Some who))
 
--- The second pairings are the first with those that these members hold and that are near some
--- spans, each with the member in a seat. What was whole is whole, and what is said is so if it was.
+-- The second pairings have what the first have, and each that these members hold and that is near
+-- some spans, with the member in a seat. A pairing that was as the state has it still is. If the
+-- first are true of the state, so are the second, and who was in a seat still is.
 pub record AddsNear (s : State) (spans : List Span) (names : List (List ℕ))
     (some more : fin.FinMap name_cmp PairingEntry) : Type 0 where
   pub whole : (id : List ℕ) → fin.get some id ≡ fin.get s.pairings id →

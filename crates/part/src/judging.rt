@@ -47,7 +47,8 @@ fn has_histories(instruction: &Instruction) -> bool
 }
 
 /// Judges a command under its key, and reads no more than that takes: first what the key holds, then what the command
-/// names, and only if no refusal comes of that the duties that its windows reach of the members whom it judges.
+/// names, and only if no refusal comes of that, of the members whom it judges, the pairings that its windows reach, the ground
+/// duties and the outside periods.
 pub fn judge<S: Source>(
     alloc: Global,
     source: &mut S,

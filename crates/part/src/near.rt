@@ -6,7 +6,7 @@ ghost use Rattle.std.specs.FinMap as fin;
 ghost use Rattle.std.specs.List.{Contains, fold};
 ghost use Rattle.std.specs.Option.{option_map_or};
 ghost use Rattle.command.specs.Keys.{KeyParts};
-ghost use Rattle.part.specs.Near.{IsNearPart, new_times_in};
+ghost use Rattle.part.specs.Near.{AreSo, IsNearPart, new_times_in};
 ghost use Rattle.roster.specs.Near.{period_times};
 ghost use Rattle.part.specs.Part.{NamedPart};
 ghost use Rattle.part.specs.Sources.{AddsNear, FliesIn, IsCauseOfGathering, TellsOfState, with_held};
@@ -135,14 +135,14 @@ fn add_near_of<S: Source>(
     pairings: &mut OrdMap<PairingId, PairingEntry>,
 ) -> Result<(), S::Fault>
     ensures told { TellsOfState S.is_clean S.shows (λ s _. FliesIn s seat who.now
-        → AddsNear s spans.now (who.now ∷ []) pairings.old pairings.new)
+        → AreSo s pairings.old → AddsNear s spans.now (who.now ∷ []) pairings.old pairings.new)
         source.old source.new result }
     ensures left { S.stays source.old source.new }
     ensures caused { IfErr result
         (IsCauseOfGathering S.fails S.Fault.from_gives source.old source.new) }
     ensures serves { OnOk result (S.serves source.old source.new) }
 {
-    let found = source.pairings_near(alloc, who, spans)?;
+    let found = source.pairings_near(alloc, who, spans, pairings)?;
     add_all_held(alloc, found, seat, who, pairings)?;
     Ok(())
 }
@@ -158,7 +158,7 @@ fn add_near_of_all<S: Source>(
 ) -> Result<(), S::Fault>
     ensures told { TellsOfState S.is_clean S.shows (λ s _.
         ((who : List ℕ) → Contains judged.now who → fin.get crew.now who ≡ fin.get s.crew who)
-        → AddsNear s spans.now judged.now pairings.old pairings.new)
+        → AreSo s pairings.old → AddsNear s spans.now judged.now pairings.old pairings.new)
         source.old source.new result }
     ensures left { S.stays source.old source.new }
     ensures caused { IfErr result

@@ -7,6 +7,7 @@ ghost use Rattle.roster.specs.State.{State};
 ghost use Rattle.roster.specs.Holding.{IsHeldBy, IsGroundOf, IsOutsideOf, AreJust};
 ghost use Rattle.roster.specs.Refusals.{is_member, is_pairing};
 ghost use Rattle.roster.specs.Near.{AreHeldNear};
+ghost use Rattle.part.specs.Near.{AreSo};
 ghost use Rattle.part.specs.Shown.{is_under};
 ghost use Rattle.part.specs.Sources.{TellsOfState};
 ghost use Rattle.roster.specs.Sound.{Sound};
@@ -135,16 +136,17 @@ pub trait Source {
         ensures caused { IfErr result (fails self.old self.new) }
         ensures serves { OnOk result (serves self.old self.new) };
 
-    /// Reads the pairings that a member holds and that are near some spans, in any order and with their seats free: a window may
-    /// have a minute of one of the spans and of one of the pairing's periods.
+    /// Lists the pairings that a member holds and that are near some spans, in any order and with their seats free: a window may
+    /// have a minute of one of the spans and of one of the pairing's periods. What is known of a pairing need not be read.
     fn pairings_near(
         &mut self,
         alloc: Global,
         who: &CrewId,
         spans: &[Span],
+        known: &OrdMap<PairingId, PairingEntry>,
     ) -> Result<Vec<PairingEntry>, Self::Fault>
         ensures told { TellsOfState is_clean shows
-            (λ s found. AreHeldNear s spans.now who.now found.items)
+            (λ s found. AreSo s known.now → AreHeldNear s spans.now who.now found.items)
             self.old self.new result }
         ensures left { stays self.old self.new }
         ensures caused { IfErr result (fails self.old self.new) }

@@ -106,8 +106,9 @@ impl<S: Alter> Source for Store<S> {
         alloc: Global,
         who: &CrewId,
         spans: &[Span],
+        known: &OrdMap<PairingId, PairingEntry>,
     ) -> Result<Vec<PairingEntry>, StoreFault> {
-        pairings_near_at(alloc, &mut self.conn, who, spans)
+        pairings_near_at(alloc, &mut self.conn, who, spans, known)
     }
 
     fn grounds_of(&mut self, alloc: Global, who: &CrewId) -> Result<Vec<GroundId>, StoreFault> {

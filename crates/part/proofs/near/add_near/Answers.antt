@@ -4,7 +4,7 @@ use Rattle.roster.specs.State.{State}
 use Rattle.part.specs.Near.{HasNear}
 use Rattle.part.proofs.Causes.{caused_then}
 use Rattle.part.proofs.Picked.{judged_same}
-use Rattle.part.proofs.PickedNear.{crew_known, judged_as, near_as, times_same}
+use Rattle.part.proofs.PickedNear.{crew_known, judged_as, named_so, near_as, times_same}
 use Rattle.part.proofs.near.add_near.Goals as goal
 
 pub returns-clause-told : goal.returns-clause-told
@@ -24,7 +24,7 @@ returns-clause-told g c = (
             let spans = c.in_ok-spans.ensures ∙ times_same s instruction _ named_pairings in
             let crew = judged_as s instruction _ _ _ (ap (λ (x : State). x.crew) named) (c.deref.ensures.value ∙ judged) members.1 in
             let known = crew_known s instruction _ _ crew (c.deref-2.ensures.value ∙ judged) in
-            let pairings = near_as s instruction _ _ _ _ named_pairings (c.deref-2.ensures.value ∙ judged) (c.deref-3.ensures.value ∙ spans) (near.1 known) in
+            let pairings = near_as s instruction _ _ _ _ named_pairings (c.deref-2.ensures.value ∙ judged) (c.deref-3.ensures.value ∙ spans) (near.1 known (named_so s instruction _ named_pairings)) in
             let duties = others.1 instruction (c.deref-4.ensures.value ∙ judged) (ap (λ (x : State). x.grounds) named) (ap (λ (x : State). x.outsides) named) in
             record {
               pairings = subst (HasNear s instruction) (ap (λ (x : State). x.pairings) (sym duties)) pairings;

@@ -25,9 +25,9 @@ loop-who-preserved g c =
             let was = c.loop-who.invariant.3 (w.add_near_of.ensures.told.0 clean) s shows in
             let told = w.in_ok-add_near_of.ensures.told.1 clean s was.0 in (
               told.0,
-              λ crew. subst (λ names. AddsNear s spans names first w.add_near_of.new.pairings) (sym more)
-                  (adds_then s spans (take i judged) (who ∷ []) first c.loop-who.pairings w.add_near_of.new.pairings (was.1 crew)
-                  (told.1 (w.in-Some.member.now, sym (crew who one) ∙ sym w.in-Some.ensures, refl))),
+              λ crew so. subst (λ names. AddsNear s spans names first w.add_near_of.new.pairings) (sym more)
+                  (adds_then s spans (take i judged) (who ∷ []) first c.loop-who.pairings w.add_near_of.new.pairings (was.1 crew so)
+                  (told.1 (w.in-Some.member.now, sym (crew who one) ∙ sym w.in-Some.ensures, refl) ((was.1 crew so).so so))),
             ),
       )
       | in_default w ↦ rw (w.source-is, w.pairings-is) (
@@ -37,8 +37,8 @@ loop-who-preserved g c =
         λ clean s shows.
             let was = c.loop-who.invariant.3 clean s shows in (
               was.0,
-              λ crew. subst (λ names. AddsNear s spans names first c.loop-who.pairings) (sym more)
-                  (adds_then s spans (take i judged) (who ∷ []) first c.loop-who.pairings c.loop-who.pairings (was.1 crew)
+              λ crew so. subst (λ names. AddsNear s spans names first c.loop-who.pairings) (sym more)
+                  (adds_then s spans (take i judged) (who ∷ []) first c.loop-who.pairings c.loop-who.pairings (was.1 crew so)
                   (adds_no_member s spans (g.S.Source.shown_is_sound c.loop-who.source s was.0) who (sym (crew who one) ∙ sym w.in_default.ensures) c.loop-who.pairings)),
             ),
       )

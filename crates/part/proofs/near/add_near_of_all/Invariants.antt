@@ -1,6 +1,7 @@
 use Rattle.std.proofs.Common.{◌≡◌, ℕ, List, Contains, take}
 use Rattle.std.specs.FinMap as fin
 use Rattle.roster.specs.State.{State}
+use Rattle.part.specs.Near.{AreSo}
 use Rattle.part.specs.Sources.{AddsNear}
 use Rattle.part.proofs.near.add_near_of_all.Given as goal
 
@@ -12,4 +13,4 @@ invariant-loop-who g l =
     × (g.S.Source.is_clean l.source → (s : State) → g.S.Source.shows l.initial.source s →
     g.S.Source.shows l.source s
     × (((who : List ℕ) → Contains l.judged who → fin.get l.crew who ≡ fin.get s.crew who) →
-    AddsNear s l.spans (take l.who-index l.judged) l.initial.pairings l.pairings))
+    AreSo s l.initial.pairings → AddsNear s l.spans (take l.who-index l.judged) l.initial.pairings l.pairings))
